@@ -1,0 +1,4 @@
+pub mod Cells
+pub mod Examples
+pub mod Groups
+pub mod Laws
