@@ -1,0 +1,4 @@
+pub mod Digits
+pub mod OrderFacts
+pub mod Signs
+pub mod ValueFacts

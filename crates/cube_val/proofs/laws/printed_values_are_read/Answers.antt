@@ -1,0 +1,5 @@
+use Rattle.cube_val.proofs.ValueFacts.{printed_is_read}
+use Rattle.cube_val.proofs.laws.printed_values_are_read.Goals as goal
+
+pub returns : goal.returns
+returns c = printed_is_read

@@ -1,0 +1,6 @@
+pub mod Laws
+pub mod Numbers
+pub mod Order
+pub mod Splits
+pub mod Texts
+pub mod Values
