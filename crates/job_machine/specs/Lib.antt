@@ -1,3 +1,4 @@
+pub mod Examples
+pub mod Fields
 pub mod Job
 pub mod Texts
-pub mod Examples

@@ -1,4 +1,4 @@
-ghost use Rattle.std.specs.Prelude.{◌≡◌, ◌≢◌, ◌<◌, ℕ, true, false};
+ghost use Rattle.std.specs.Prelude.{◌≡◌, ◌≢◌, ◌<◌, ℕ, true, false, OnErr};
 
 use crate::state::{Ended, JobKind, JobRefusal, JobState};
 use std::marker::Model;
@@ -16,7 +16,7 @@ pub struct Job {
     pub done: u32,
     /// How often the job was claimed. The last claim is its attempt.
     pub attempt: u32,
-    /// Whether the last claim still has no end.
+    /// Whether the end of the last claim is awaited: no longer after that end, a pause or a discard.
     pub in_flight: bool,
     /// Where the job stands.
     pub state: JobState,
@@ -27,9 +27,11 @@ impl Model for Job {
 
     ghost Value = { JobRecord };
 
-    ghost view = { λ j. record { id = j.id; kind = j.kind; steps = j.steps; done = j.done; attempt = j.attempt; in_flight = j.in_flight; state = j.state } };
+    ghost use Rattle.job_machine.specs.Fields.{record_of};
 
-    ghost invariant = { λ j. IsJob (record { id = j.id; kind = j.kind; steps = j.steps; done = j.done; attempt = j.attempt; in_flight = j.in_flight; state = j.state }) };
+    ghost view = { record_of };
+
+    ghost invariant = { λ job. IsJob (record_of job) };
 
     ghost inverse = { λ r. record { id = r.id; kind = r.kind; steps = r.steps; done = r.done; attempt = r.attempt; in_flight = r.in_flight; state = r.state } };
 }
@@ -82,6 +84,7 @@ impl Job {
     pub fn step_ok(&mut self, attempt: u32) -> Ended
         ensures ended { result ≡ ended_ok self.old attempt }
         ensures job { self.new ≡ after_end (ended_ok self.old attempt) self.old }
+        ensures stale { result ≡ Ended.Stale → self.new ≡ self.old }
     {
         if !self.is_current(attempt) {
             return Ended::Stale;
@@ -100,6 +103,7 @@ impl Job {
     pub fn step_failed(&mut self, attempt: u32) -> Ended
         ensures ended { result ≡ ended_failed self.old attempt }
         ensures job { self.new ≡ after_end (ended_failed self.old attempt) self.old }
+        ensures stale { result ≡ Ended.Stale → self.new ≡ self.old }
     {
         if !self.is_current(attempt) {
             return Ended::Stale;
@@ -113,6 +117,7 @@ impl Job {
     pub fn pause(&mut self) -> Result<Option<u32>, JobRefusal>
         ensures answer { result ≡ answer_to Act.Pause (attempt_in_flight self.old) self.old }
         ensures job { self.new ≡ next Act.Pause self.old }
+        ensures refused { OnErr result (self.new ≡ self.old) }
     {
         match self.state {
             JobState::Pending => Ok(self.halt(JobState::Stopped)),
@@ -128,6 +133,7 @@ impl Job {
     pub fn resume(&mut self) -> Result<(), JobRefusal>
         ensures answer { result ≡ answer_to Act.Resume tt self.old }
         ensures job { self.new ≡ next Act.Resume self.old }
+        ensures refused { OnErr result (self.new ≡ self.old) }
     {
         match self.state {
             JobState::Error => {}
@@ -145,6 +151,7 @@ impl Job {
     pub fn discard(&mut self) -> Result<Option<u32>, JobRefusal>
         ensures answer { result ≡ answer_to Act.Discard (attempt_in_flight self.old) self.old }
         ensures job { self.new ≡ next Act.Discard self.old }
+        ensures refused { OnErr result (self.new ≡ self.old) }
     {
         match self.state {
             JobState::Pending => Ok(self.halt(JobState::Discarded)),

@@ -10,10 +10,12 @@
 
 mod examples;
 mod job;
+mod laws;
 mod state;
 #[cfg(test)]
 mod tests;
 
 pub use examples::worked_examples;
 pub use job::Job;
+pub use laws::ended_jobs_stay;
 pub use state::{Ended, JobKind, JobRefusal, JobState};
