@@ -4,3 +4,12 @@ pub mod Written
 pub mod Numbering
 pub mod MemoryFiles
 pub mod MemorySink
+pub mod Watches
+pub mod Hands
+pub mod Fates
+pub mod MemoryHand
+pub mod LyingHand
+pub mod Stoppers
+pub mod MemoryStopper
+pub mod Rises
+pub mod Examples

@@ -4,7 +4,7 @@ ghost use Rattle.std.specs.Prelude.{◌≡◌, ◌≤◌, ◌<◌, ◌-◌, ◌^
 ghost use Rattle.std.specs.List.{find};
 ghost use Rattle.std.specs.Option.{option_copied};
 ghost use Rattle.outside.specs.Contents.{IsLongerAt, IsNotLongerAt};
-ghost use Rattle.outside.specs.Counts.{Rose};
+ghost use Rattle.outside.specs.Counts.{Rose, raised};
 ghost use Rattle.outside.specs.MemoryFiles.{bytes_of, faults_after, file_of, has_path};
 ghost use Rattle.outside.specs.Numbering.{NextFails, after_call};
 
@@ -72,6 +72,15 @@ impl MemoryFiles {
     {
         find_bytes(self.entries.as_slice(), path)
     }
+
+    // Counts a call that fails.
+    fn fail(&mut self) -> FileFault
+        ensures fault { result ≡ FileFault.Failed }
+        ensures counted { self.new ≡ record self.old { faults = raised self.old.faults } }
+    {
+        self.faults = self.faults.saturating_add(1);
+        FileFault::Failed
+    }
 }
 
 impl Files for MemoryFiles {
@@ -107,15 +116,13 @@ impl Files for MemoryFiles {
     {
         let fails = self.calls.next_fails();
         let Some(bytes) = self.bytes_at(path) else {
-            self.faults = self.faults.saturating_add(1);
-            return Err(FileFault::Failed);
+            return Err(self.fail());
         };
         if bytes.len() as u64 > limit {
             return Err(FileFault::TooLong);
         }
         if fails {
-            self.faults = self.faults.saturating_add(1);
-            return Err(FileFault::Failed);
+            return Err(self.fail());
         }
         match Vec::from_slice(alloc, bytes) {
             Ok(copy) => Ok(copy),
@@ -144,9 +151,8 @@ impl Files for MemoryFiles {
         ensures bounded { (self.new.faults < 2 ^ 64) × (self.new.write_faults < 2 ^ 64) × (self.new.seen < 2 ^ 64) }
     {
         if self.calls.next_fails() {
-            self.faults = self.faults.saturating_add(1);
             self.write_faults = self.write_faults.saturating_add(1);
-            return Err(FileFault::Failed);
+            return Err(self.fail());
         }
         let Ok(copy) = Vec::from_slice(alloc, bytes) else {
             return Err(FileFault::Memory);
@@ -158,6 +164,7 @@ impl Files for MemoryFiles {
             path: name,
             bytes: copy,
         };
+        // Of several entries with one path the first counts.
         match self.entries.insert(0, entry) {
             Ok(()) => Ok(()),
             Err(_) => Err(FileFault::Memory),

@@ -1,4 +1,4 @@
-use Rattle.std.proofs.Common.{ap, sym, ◌∙◌, Some}
+use Rattle.std.proofs.Common.{ap, ◌∙◌, Some}
 use Rattle.std.specs.Option.{option_map}
 use Rattle.outside.specs.declared.files.Entry.{Entry}
 use Rattle.outside.proofs.FoundFiles.{find_bytes_of}
