@@ -181,6 +181,25 @@ module _ {K : Type 0} {cmp : K → K → Ordering} (o : IsTotalOrder cmp) (exact
       (λ q. find-tabled mark q (distinct cmp xs) ∙ ap (λ b. cond b (Some tt) None) (any-distinct (eq_by_cmp cmp q) xs ∙ same q)) in
       sym (keys-tabled mark (distinct cmp xs)) ∙ ap (map (λ e. e.0)) e ∙ keys-tabled mark (distinct cmp ys)
 
+  all_distinct : (P : K → Type 0) (ks : List K) → AllByRecursion P ks → AllByRecursion P (distinct cmp ks)
+  all_distinct P [] all = tt
+  all_distinct P (k ∷ ks) all = all_insert P (distinct cmp ks) k all.0 (all_distinct P ks all.1)
+
+  -- what holds of the key of each row holds of the key of each group
+  pub all_grouped : (P : K → Type 0) {R V M : Type 0} (key : R → K) (value : R → V) (combine : List V → M) (rows : List R)
+      → AllByRecursion (λ r. P (key r)) rows → AllByRecursion (λ e. P e.0) (grouped cmp key value combine rows)
+  all_grouped P key value combine rows all =
+      let keys : AllByRecursion P (map key rows) = mapped key rows all in
+      tables (λ k. (k, combine (values_at cmp key value rows k))) (λ k. refl) (distinct cmp (map key rows)) (all_distinct P (map key rows) keys)
+    where
+      mapped : {X : Type 0} (f : X → K) (xs : List X) → AllByRecursion (λ x. P (f x)) xs → AllByRecursion P (map f xs)
+      mapped f [] h = tt
+      mapped f (x ∷ xs) h = (h.0, mapped f xs h.1)
+
+      tables : {M : Type 0} (f : K → K × M) → ((k : K) → (f k).0 ≡ k) → (ks : List K) → AllByRecursion P ks → AllByRecursion (λ e. P e.0) (map f ks)
+      tables f same [] h = tt
+      tables f same (k ∷ ks) h = (subst P (sym (same k)) h.0, tables f same ks h.1)
+
   -- the keys of groups strictly rise
   pub rises-grouped : {R V M : Type 0} (key : R → K) (value : R → V) (combine : List V → M) (rows : List R) → IsStrictlySortedBy cmp (map (λ e. e.0) (grouped cmp key value combine rows))
   rises-grouped key value combine rows =

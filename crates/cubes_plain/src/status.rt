@@ -1,0 +1,19 @@
+//! The exit statuses of commands. Each that is not `DONE`, `MEMORY` or `WRITE_FAULT` has its one fault line.
+
+/// The output was written.
+pub const DONE: u8 = 0;
+
+/// No memory was found.
+pub const MEMORY: u8 = 1;
+
+/// The words are no command.
+pub const BAD_WORDS: u8 = 2;
+
+/// A file could not be read.
+pub const READ_FAULT: u8 = 3;
+
+/// The output could not be written.
+pub const WRITE_FAULT: u8 = 4;
+
+/// A file that was read is not the table that the command takes.
+pub const BAD_TABLE: u8 = 8;
