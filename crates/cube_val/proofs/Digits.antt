@@ -1,9 +1,9 @@
 -- Digits and the numbers that they write.
-use Rattle.std.proofs.Common.{◌≡◌, ◌<◌, ◌≤◌, ◌+◌, ◌*◌, ◌-◌, ◌^◌, ◌∙◌, ◌&&◌, ℕ, Bool, true, List, [], ◌∷◌, length, take, get_or, arith, ap, refl}
+use Rattle.std.proofs.Common.{◌≡◌, ◌<◌, ◌≤◌, ◌+◌, ◌*◌, ◌-◌, ◌^◌, ◌∙◌, ◌&&◌, ◌++◌, ℕ, Bool, true, List, [], ◌∷◌, length, take, get_or, arith, ap, refl}
 use Rattle.std.specs.List.{list_all}
 use Rattle.std.specs.Int.{IsInRange}
 use Rattle.std.specs.Char.{digit_value, is_ascii_digit}
-use Rattle.std.specs.Str.Parse.{AllDigits, digits_value}
+use Rattle.std.specs.Str.Parse.{AllDigits, IsNumeral, digits_value}
 use Rattle.std.proofs.lemmas.Bool.Decides.{nat_tests}
 use Rattle.std.proofs.lemmas.Str.Parse.{digit_at, digit_from_value, digits_value-take-le, digits_value_short, numerals_by_value, tells_digits}
 use Rattle.std.proofs.lemmas.Int.Digits.{digits_value_more}
@@ -50,3 +50,12 @@ step_at ds i all few within =
       more = digits_value_more 10 ds i within ∙ ap (λ n. digits_value 10 (take i ds) * 10 + n) (digit_value_is _ digit);
       small = omega arith;
     }
+
+-- a numeral begins with a digit, whatever follows it
+pub first_digit : (ds rest : List ℕ) → IsNumeral 10 ds → IsInRange 48 57 (get_or (ds ++ rest) 0 0)
+first_digit [] rest h = absurd (omega (arith, h.0))
+first_digit (d ∷ ds) rest h = digit_from_value d h.1.0
+
+pub first_of : (ds : List ℕ) → IsNumeral 10 ds → IsInRange 48 57 (get_or ds 0 0)
+first_of [] h = absurd (omega (arith, h.0))
+first_of (d ∷ ds) h = digit_from_value d h.1.0

@@ -1,4 +1,4 @@
-use Rattle.cube_val.proofs.ValueFacts.{printed_is_read}
+use Rattle.cube_val.proofs.Printed.{printed_is_read}
 use Rattle.cube_val.proofs.laws.printed_values_are_read.Goals as goal
 
 pub returns : goal.returns
