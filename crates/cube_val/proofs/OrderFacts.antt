@@ -1,18 +1,16 @@
--- The order of values is total, and only equal values tie.
-use Rattle.std.proofs.Common.{◌≡◌, ap, rules, refl, sym}
+-- Only equal values and equal rows tie in their orders.
+use Rattle.std.proofs.Common.{◌≡◌, List, ap, refl, sym}
+use Rattle.std.specs.FinMap.{slice_cmp-IsAntisymmetric}
 use mathlib.Core.Bool.{true≢false, true}
 use Rattle.std.specs.declared.cmp.Ordering.{Ordering}
 use Rattle.std.specs.declared.cmp.Ordering.TheVariants.{Less, Equal, Greater}
 use Rattle.std.specs.Ordering.{eq_by_cmp, is_eq, ordering_then}
-use Rattle.std.specs.Cmp.{IsTotalOrder, tied_itself}
-use Rattle.std.specs.Cmp.Rules.{comparing}
+use Rattle.std.specs.Cmp.{tied_itself}
 use Rattle.std.proofs.lemmas.Map.Lookups.{exact_bytes, exact_signed}
 use Rattle.cube_val.specs.declared.val.Val.{Val}
 use Rattle.cube_val.specs.declared.val.Val.TheVariants.{Null, Int, Text}
-use Rattle.cube_val.specs.Order.{val_cmp}
-
-pub val_cmp_total : IsTotalOrder val_cmp
-val_cmp_total = search (comparing, rules)
+use Rattle.cube_val.specs.Order.{row_cmp, val_cmp}
+use Rattle.cube_val.specs.OrderLaws.{val_cmp_total}
 
 not_equal : {A : Type 0} → Less ≡ Equal → A
 not_equal e = absurd (true≢false (sym (ap is_eq e)))
@@ -50,3 +48,6 @@ val_cmp_same x = tied_itself val_cmp_total x
 
 pub val_eq_same : (x y : Val) → x ≡ y → eq_by_cmp val_cmp x y ≡ true
 val_eq_same x y same = rw (same, val_cmp_same y) refl
+
+pub row_cmp_exact : (v w : List Val) → row_cmp v w ≡ Equal → v ≡ w
+row_cmp_exact = slice_cmp-IsAntisymmetric val_cmp_exact

@@ -5,13 +5,17 @@ use Rattle.std.specs.Ordering.{eq_by_cmp}
 use Rattle.cube_val.specs.declared.val.ColType.{ColType}
 use Rattle.cube_val.specs.declared.val.Val.{Val}
 use Rattle.cube_val.specs.declared.val.Val.TheVariants.{Text}
-use Rattle.cube_val.specs.Order.{val_cmp}
+use Rattle.cube_val.specs.Order.{row_cmp, val_cmp}
 use Rattle.cube_val.specs.Texts.{null_text}
 use Rattle.cube_val.specs.Values.{FitsType, IsValue, Writes, text_of}
 
 -- values that tie in the order are equal
 abbrev pub OnlyEqualTie : Type 0
 OnlyEqualTie = (v w : Val) → val_cmp v w ≡ Equal → v ≡ w
+
+-- rows that tie in the order are equal
+abbrev pub OnlyEqualRowsTie : Type 0
+OnlyEqualRowsTie = (v w : List Val) → row_cmp v w ≡ Equal → v ≡ w
 
 -- `==` tells exactly whether two values are equal
 abbrev pub EqualityIsExact : Type 0

@@ -1,6 +1,7 @@
 pub mod Laws
 pub mod Numbers
 pub mod Order
+pub mod OrderLaws
 pub mod Splits
 pub mod Texts
 pub mod Values

@@ -1,4 +1,4 @@
--- The order of values: null first, then numbers by size, then texts by their bytes.
+-- The order of values: null first, then numbers by size, then texts by their bytes. Rows are ordered by their first difference.
 use Rattle.std.specs.Prelude.{ℕ, ℤ, pos, List, []}
 use Rattle.std.specs.declared.cmp.Ordering.{Ordering}
 use Rattle.std.specs.Ordering.{nat_cmp, int_cmp, on, then_cmp}
@@ -23,3 +23,6 @@ bytes_of (Text t) = t
 
 abbrev pub val_cmp : Val → Val → Ordering
 val_cmp = then_cmp (on kind_of nat_cmp) (then_cmp (on number_of int_cmp) (on bytes_of (slice_cmp nat_cmp)))
+
+abbrev pub row_cmp : List Val → List Val → Ordering
+row_cmp = slice_cmp val_cmp

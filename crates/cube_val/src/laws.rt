@@ -1,14 +1,20 @@
 //! What holds of all values: each is a law over the definitions, so it serves every call that is exact by them.
 
 ghost use Rattle.std.specs.Cmp.{IsTotalOrder};
-ghost use Rattle.cube_val.specs.Laws.{EqualityIsExact, OnlyEqualTie, PrintedIsRead, TextsHaveOneValue};
-ghost use Rattle.cube_val.specs.Order.{val_cmp};
+ghost use Rattle.cube_val.specs.Laws.{EqualityIsExact, OnlyEqualRowsTie, OnlyEqualTie, PrintedIsRead, TextsHaveOneValue};
+ghost use Rattle.cube_val.specs.Order.{row_cmp, val_cmp};
 
 /// The order of values is total, only equal values tie, and `==` says of two values that they are equal.
 pub fn order_is_total()
     ensures total { IsTotalOrder val_cmp }
     ensures ties { OnlyEqualTie }
     ensures equality { EqualityIsExact }
+{}
+
+/// The order of rows is total, and only equal rows tie.
+pub fn row_order_is_total()
+    ensures total { IsTotalOrder row_cmp }
+    ensures ties { OnlyEqualRowsTie }
 {}
 
 /// Bytes write at most one value in a column of a type.

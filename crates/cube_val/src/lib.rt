@@ -8,14 +8,14 @@
 //!
 //! - A `TextVal` is at most 255 bytes of UTF-8, and an `Int` is an `i64`, so what was read once is never checked again.
 //! - Bytes write at most one value in a column of a type, and what is printed of a value writes that value.
-//! - The order of values is total, and only equal values tie.
+//! - The orders of values and of rows are total, and only equal ones tie.
 //! - Contracts see a text and a name as their bytes, a row as the list of its values, a table as the list of its rows,
 //!   and a list in a form as the list of its items: equal in a contract is equal to a caller.
 //!
 //! The modules:
 //!
-//! - `val`: values, how they are read and printed; `number` and `text` beside it for their kinds; `order`: how they
-//!   are compared.
+//! - `val`: values, how they are read and printed; `number` and `text` beside it for their kinds; `order` and `row_order`: how
+//!   they and rows are compared.
 //! - `rows`: rows and tables; `name`: the names of columns.
 //! - `form`: the forms of tables, the shared tables of a cube and the plan of its joins; `items`: their lists.
 //! - `laws`: what holds of all values; `examples`: the definitions on a few.
@@ -28,6 +28,7 @@ mod laws;
 mod name;
 mod number;
 mod order;
+mod row_order;
 mod rows;
 mod text;
 mod val;
@@ -35,7 +36,7 @@ mod val;
 pub use examples::worked_examples;
 pub use form::{ColDesc, JoinPlan, JoinStep, TableForm, TableSet, WideCol};
 pub use items::Items;
-pub use laws::{order_is_total, printed_values_are_read, texts_have_one_value};
+pub use laws::{order_is_total, printed_values_are_read, row_order_is_total, texts_have_one_value};
 pub use name::NameText;
 pub use number::decimal_text;
 pub use order::cmp;

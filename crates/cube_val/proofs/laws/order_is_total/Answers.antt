@@ -1,4 +1,5 @@
-use Rattle.cube_val.proofs.OrderFacts.{val_cmp_total, val_cmp_exact, val_eq_exact, val_eq_same}
+use Rattle.cube_val.specs.OrderLaws.{val_cmp_total}
+use Rattle.cube_val.proofs.OrderFacts.{val_cmp_exact, val_eq_exact, val_eq_same}
 use Rattle.cube_val.proofs.laws.order_is_total.Goals as goal
 
 pub returns-clause-total : goal.returns-clause-total
