@@ -2,7 +2,8 @@
 use Rattle.std.specs.Cmp.{IsTotalOrder, on_total, then_total}
 use Rattle.std.proofs.lemmas.Map.Lookups.{exact_pairs}
 use Rattle.aggregation.specs.Laws.{IsExact}
-use Rattle.cube_val.proofs.OrderFacts.{val_cmp_exact, val_cmp_total}
+use Rattle.cube_val.proofs.OrderFacts.{val_cmp_exact}
+use Rattle.cube_val.specs.OrderLaws.{val_cmp_total}
 use Rattle.cube_val.specs.Order.{val_cmp}
 use Rattle.cube_val.specs.declared.val.Val.{Val}
 use Rattle.cubes_plain.specs.Folds.{pair_cmp}

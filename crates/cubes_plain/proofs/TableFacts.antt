@@ -9,7 +9,8 @@ use Rattle.aggregation.specs.Groups.{aggregate}
 use Rattle.aggregation.proofs.GroupFacts.{all_grouped}
 use Rattle.cube_val.specs.Order.{val_cmp}
 use Rattle.cube_val.specs.Values.{FitsType}
-use Rattle.cube_val.proofs.OrderFacts.{val_cmp_exact, val_cmp_total}
+use Rattle.cube_val.proofs.OrderFacts.{val_cmp_exact}
+use Rattle.cube_val.specs.OrderLaws.{val_cmp_total}
 use Rattle.csv.specs.Machine.{Read, next_record}
 use Rattle.csv.specs.Reading.{AreRecords, Reached, is_bom, strip_bom}
 use Rattle.std.specs.Prelude.{eqb}

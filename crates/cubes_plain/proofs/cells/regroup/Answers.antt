@@ -5,7 +5,8 @@ use Rattle.std.proofs.lemmas.List.{map-append}
 use Rattle.std.proofs.lemmas.Map.Iter.{iter_end, rest_more, rest_so_far}
 use Rattle.cube_val.specs.declared.val.Val.{Val}
 use Rattle.cube_val.specs.Order.{val_cmp}
-use Rattle.cube_val.proofs.OrderFacts.{val_cmp_exact, val_cmp_total}
+use Rattle.cube_val.proofs.OrderFacts.{val_cmp_exact}
+use Rattle.cube_val.specs.OrderLaws.{val_cmp_total}
 use Rattle.aggregation.proofs.CellFacts.{fill_step_at, filled_is_grouped, merged_grows, merged_room}
 use Rattle.cubes_plain.proofs.cells.regroup.Goals as goal
 

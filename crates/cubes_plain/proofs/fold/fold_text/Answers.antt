@@ -9,7 +9,8 @@ use Rattle.aggregation.proofs.CellFacts.{count_aggregate}
 use Rattle.aggregation.proofs.GroupFacts.{gather_aggregate}
 use Rattle.cube_val.specs.Order.{val_cmp}
 use Rattle.cube_val.specs.declared.val.Val.{Val}
-use Rattle.cube_val.proofs.OrderFacts.{val_cmp_exact, val_cmp_total}
+use Rattle.cube_val.proofs.OrderFacts.{val_cmp_exact}
+use Rattle.cube_val.specs.OrderLaws.{val_cmp_total}
 use Rattle.cubes_plain.specs.Folds.{group_line, header_line}
 use Rattle.cubes_plain.specs.Rows.{dims_of, item_of}
 use Rattle.cubes_plain.proofs.PairOrder.{pair_cmp_exact, pair_cmp_total}
