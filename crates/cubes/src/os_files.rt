@@ -1,6 +1,7 @@
 // The files of the system.
 
 ghost use Rattle.std.specs.Prelude.{◌≡◌, ◌≤◌, ◌<◌, ◌^◌, ◌-◌, ℕ, None, IfOk, IsErrOf, length};
+ghost use Rattle.cubes.specs.Streams.{IsAllOf};
 
 use outside::{FileFault, Files};
 use std::alloc::Global;
@@ -36,6 +37,7 @@ const PIECE: usize = 65_536;
 // The bytes that the reader has left, at most `limit` of them. Each turn takes at least one byte, so where the turns
 // run out more bytes were taken than a file can have, which is a fault.
 fn read_all<I: Read>(alloc: Global, input: &mut I, limit: u64) -> Result<Vec<u8>, FileFault>
+    ensures all { IfOk result (λ v. IsAllOf (I.remaining input.old) v.items) }
     ensures limited { IfOk result (λ v. length v.items ≤ limit) }
     ensures longer_limited { IsErrOf result FileFault.TooLong → limit < 2 ^ 64 - 1 }
 {
