@@ -136,7 +136,7 @@ sum_cons f x xs = sum_by-append f (x ∷ []) xs ∙ ap (λ n. n + sum_by f xs) (
 -- ---- cells merged
 
 module _ {I M : Type 0} {count : M → ℕ} {of : List I → M} {merge : M → M → M} (laws : MeasureLaws count of merge) where
-  merged_push : (xs : List M) (v : M) → merged_all (of []) merge (xs ++ v ∷ []) ≡ merge (merged_all (of []) merge xs) v
+  pub merged_push : (xs : List M) (v : M) → merged_all (of []) merge (xs ++ v ∷ []) ≡ merge (merged_all (of []) merge xs) v
   merged_push [] v = laws.commutative v (of [])
   merged_push (x ∷ xs) v = ap (merge x) (merged_push xs v) ∙ sym (laws.associative x (merged_all (of []) merge xs) v)
 
@@ -183,3 +183,13 @@ pub count_aggregate : {K R I M : Type 0} {cmp : K → K → Ordering} → IsTota
 count_aggregate {cmp = cmp} o exact {count = count} {of = of} laws key item rows =
     let cells = aggregate cmp key item of rows in
     sum_second count cells ∙ sym (merged_count laws (map (λ c. c.1) cells)) ∙ ap count (merged_aggregate o exact laws key item rows) ∙ laws.counted (map item rows) ∙ length-map rows item
+
+-- the merge of the cells so far has room for the next one
+pub merged_all_room : {I M K : Type 0} {count : M → ℕ} {of : List I → M} {merge : M → M → M} → MeasureLaws count of merge → (done rest : List (K × M)) (next : K × M) (n : ℕ)
+    → sum_by (λ c. count c.1) (done ++ next ∷ rest) ≤ n → count (merged_all (of []) merge (map (λ c. c.1) done)) + count next.1 ≤ n
+merged_all_room {count = count} laws done rest next n fits =
+    let size = merged_count laws (map (λ c. c.1) done) in
+    let part = sum_second count done in
+    let whole = sum_by-append (λ c. count c.1) done (next ∷ rest) in
+    let front = sum_cons (λ c. count c.1) next rest in
+    omega arith

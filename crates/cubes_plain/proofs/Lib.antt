@@ -1,2 +1,2 @@
-pub mod PairOrder
+pub mod GroupFacts
 pub mod TableFacts

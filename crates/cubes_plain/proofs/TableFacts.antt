@@ -180,18 +180,12 @@ fact_rows (x ∷ records) (r ∷ rows) h = (h.0.1, fact_rows records rows h.1)
 pub table_rows : (bytes : List ℕ) (rows : List (List Val)) → IsFoldTable bytes rows → All IsFactRow rows
 table_rows bytes rows t = All-from_recursion IsFactRow rows (fact_rows t.records.0 rows t.records.2)
 
--- an item of a list has what each item has
-middle : {X : Type 0} (P : X → Type 0) (front : List X) (x : X) (rest : List X) → AllByRecursion P (front ++ x ∷ rest) → P x
-middle P [] x rest all = all.0
-middle P (a ∷ front) x rest all = middle P front x rest all.1
-
 first_fits : (rows : List (List Val)) → AllByRecursion IsFactRow rows → AllByRecursion (λ row. FitsType ty.Text (d1_of row)) rows
 first_fits [] all = tt
 first_fits (r ∷ rows) all = (all.0.1, first_fits rows all.1)
 
 -- the key of each group of rows is a text or null
-pub group_fits : (rows : List (List Val)) (front : List (Val × Summed)) (group : Val × Summed) (rest : List (Val × Summed)) → All IsFactRow rows
-    → aggregate val_cmp d1_of item_of summed rows ≡ front ++ group ∷ rest → FitsType ty.Text group.0
-group_fits rows front group rest facts split =
-    let keys = all_grouped val_cmp_total val_cmp_exact (FitsType ty.Text) d1_of item_of summed rows (first_fits rows (recursion_from_All IsFactRow rows facts)) in
-    middle (λ (g : Val × Summed). FitsType ty.Text g.0) front group rest (rw split at keys)
+pub keys_fit : (rows : List (List Val)) → All IsFactRow rows → All (λ (g : Val × Summed). FitsType ty.Text g.0) (aggregate val_cmp d1_of item_of summed rows)
+keys_fit rows facts =
+    All-from_recursion (λ (g : Val × Summed). FitsType ty.Text g.0) (aggregate val_cmp d1_of item_of summed rows)
+    (all_grouped val_cmp_total val_cmp_exact (FitsType ty.Text) d1_of item_of summed rows (first_fits rows (recursion_from_All IsFactRow rows facts)))

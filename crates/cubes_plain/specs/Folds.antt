@@ -1,7 +1,5 @@
 -- The text of `fold`.
 use Rattle.std.specs.Prelude.{ℕ, List, [], ◌∷◌, ◌++◌, codes}
-use Rattle.std.specs.declared.cmp.Ordering.{Ordering}
-use Rattle.std.specs.Ordering.{on, then_cmp}
 use Rattle.std.specs.Fmt.{decimal, signed_decimal}
 use Rattle.std.specs.List.{flat_map}
 use Rattle.csv.specs.Writing.{default_writer, row_text}
@@ -12,10 +10,6 @@ use Rattle.cube_val.specs.declared.val.ColType.TheVariants as ty
 use Rattle.cube_val.specs.declared.val.Val.{Val}
 use Rattle.measure_laws.specs.Measures.{Summed, summed}
 use Rattle.cubes_plain.specs.Rows.{d1_of, item_of}
-
--- the order of pairs of values
-abbrev pub pair_cmp : Val × Val → Val × Val → Ordering
-pair_cmp = then_cmp (on (λ p. p.0) val_cmp) (on (λ p. p.1) val_cmp)
 
 -- a line as `csv` writes a record with its default settings
 abbrev pub csv_line : List (List ℕ) → List ℕ

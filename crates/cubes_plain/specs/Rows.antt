@@ -25,9 +25,6 @@ m_of row = slice_index_or row 2 Null
 abbrev pub IsFactRow : List Val → Type 0
 IsFactRow row = (length row ≡ 3) × FitsType ty.Text (d1_of row) × FitsType ty.Text (d2_of row) × IsInt (m_of row)
 
--- what a row is grouped by, and what it adds
-abbrev pub dims_of : List Val → Val × Val
-dims_of row = (d1_of row, d2_of row)
-
+-- what a row adds
 abbrev pub item_of : List Val → ℤ
 item_of row = number_of (m_of row)

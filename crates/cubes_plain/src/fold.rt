@@ -7,7 +7,7 @@ ghost use Rattle.cubes_plain.specs.Folds.{csv_line, fold_text, group_line};
 ghost use Rattle.cubes_plain.specs.Rows.{IsFactRow};
 ghost use Rattle.measure_laws.specs.Measures.{most_items};
 
-use crate::cells::{base, regroup};
+use crate::cells::cells_by_d1;
 use csv::WriterBuilder;
 use cube_val::{ColType, Table, Val, val_text};
 use measure_laws::Sum;
@@ -44,8 +44,7 @@ pub fn fold_text(alloc: Global, table: &Table) -> Result<Vec<u8>, AllocError>
     requires rows { All IsFactRow table.now }
     ensures { IfOk result (λ text. text.items ≡ fold_text table.now) }
 {
-    let cells = base::<Sum>(alloc, table)?;
-    let groups = regroup(alloc, &cells)?;
+    let cells = cells_by_d1::<Sum>(alloc, table)?;
     let mut text = line_of(
         alloc,
         &[
@@ -54,7 +53,7 @@ pub fn fold_text(alloc: Global, table: &Table) -> Result<Vec<u8>, AllocError>
             b"SUM(M)".as_slice(),
         ],
     )?;
-    for (key, cell) in &groups {
+    for (key, cell) in &cells {
         let line = group_line(alloc, key, cell)?;
         text.extend_from_slice(line.as_slice())?;
     }

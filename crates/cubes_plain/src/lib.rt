@@ -3,8 +3,8 @@
 //!
 //! The crate stands near the top: it reads through `outside::Files`, keeps rows as `cube_val` has them, aggregates
 //! them by `aggregation` and `measure_laws`, and writes through `outside::Sink`. The way of the data is `words` (which
-//! command), `rows` (the bytes of a file to rows, by the records of the `csv` crate), `cells` (the rows to the base
-//! cuboid by both columns, and that to the cuboid by D1), `fold` (the cells to text) and `plain` (the top call).
+//! command), `rows` (the bytes of a file to rows, by the records of the `csv` crate), `cells` (the rows to the cuboid by
+//! D1, by way of the cells by both columns, one D1 after another), `fold` (the cells to text) and `plain` (the top call).
 //!
 //! The invariant at its boundary is the contract of `run_plain`: which status comes when, and what was written then.
 //! Each status but that of want of memory has its one cause; a fault of a read or a write is answered only where the
