@@ -1,0 +1,10 @@
+pub mod Lists
+pub mod Ready
+pub mod Laws
+pub mod Jobs
+pub mod InPlace
+pub mod Sound
+pub mod Kept
+pub mod Flights
+pub mod Queries
+pub mod Refusals

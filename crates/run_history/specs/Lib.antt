@@ -1,0 +1,10 @@
+pub mod Cubes
+pub mod Sets
+pub mod Commands
+pub mod World
+pub mod Verdicts
+pub mod Steps
+pub mod Histories
+pub mod Invariants
+pub mod Kept
+pub mod Examples
