@@ -6,7 +6,7 @@ ghost use Rattle.job_machine.specs.declared.state.JobKind.{JobKind};
 ghost use Rattle.job_machine.specs.declared.state.JobState.TheVariants.{Discarded};
 ghost use Rattle.range_list.specs.Ranges.{Interval, IsApart};
 ghost use Rattle.run_history.specs.Commands.{Command, Turn};
-ghost use Rattle.run_history.specs.Commands.Command.{Ask, Load, Steer, Submit};
+ghost use Rattle.run_history.specs.Commands.Command.{Ask, Load, Note, Steer, Submit};
 ghost use Rattle.run_history.specs.Commands.Turn.{Claims, QueryEnds, QueryTakes, StepEnds, Takes};
 ghost use Rattle.run_history.specs.Cubes.{Cube, Rows};
 ghost use Rattle.run_history.specs.Histories.{Along, Allowed, HasFreshAnswers, IsFresh, IsLawful, IsLegal};
@@ -16,6 +16,7 @@ ghost use Rattle.run_history.specs.Steps.{step, world};
 ghost use Rattle.run_history.specs.Verdicts.{most_segments, overlaps_job, too_many_segments, verdict};
 ghost use Rattle.run_history.specs.World.{Asked, Submitted, World, is_live, job_of, live_builds, next_task, set_at};
 ghost use Rattle.run_history.specs.declared.command.Control.{Control};
+ghost use Rattle.run_history.specs.declared.command.Noted.{Noted};
 ghost use Rattle.run_history.specs.declared.event.Outcome.{Outcome};
 ghost use Rattle.run_history.specs.declared.event.QueryOut.{QueryOut};
 ghost use Rattle.run_history.specs.declared.refused.Refused.{Refused};
@@ -48,6 +49,7 @@ pub fn sets_stay<Query, Answer>()
     ensures submitted { (cube : Cube Query Answer) (w : World Query) (line : ℕ) (kind : JobKind) (range : Interval) → SameSets w (step cube w (Takes line (Submit kind range))) }
     ensures loaded { (cube : Cube Query Answer) (w : World Query) (line table : ℕ) (rows : Rows) → SameSets w (step cube w (Takes line (Load table rows))) }
     ensures asked { (cube : Cube Query Answer) (w : World Query) (line session : ℕ) (query : Query) → SameSets w (step cube w (Takes line (Ask session query))) }
+    ensures noted { (cube : Cube Query Answer) (w : World Query) (line : ℕ) (noted : Noted) → SameSets w (step cube w (Takes line (Note noted))) }
     ensures taken { (cube : Cube Query Answer) (w : World Query) (line : ℕ) → SameSets w (step cube w (QueryTakes line)) }
     ensures answered { (cube : Cube Query Answer) (w : World Query) (line : ℕ) (out : QueryOut) → SameSets w (step cube w (QueryEnds line out)) }
 {}
