@@ -1,0 +1,6 @@
+pub mod AggregateLemmas
+pub mod ConditionLemmas
+pub mod GroupLemmas
+pub mod LoopLemmas
+pub mod OrderLemmas
+pub mod SortLemmas

@@ -1,0 +1,10 @@
+pub mod Aggregates
+pub mod Answers
+pub mod Asks
+pub mod Conditions
+pub mod Examples
+pub mod Laws
+pub mod OutRefs
+pub mod OutVals
+pub mod Sorting
+pub mod Truths
