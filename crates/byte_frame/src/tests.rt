@@ -6,11 +6,12 @@ ghost use Rattle.byte_frame.specs.Reading.{number_at, bytes_at};
 
 use crate::{
     Below, FieldReader, ReadError, Reads, put_bytes, put_i64, put_i128, put_u8, put_u16, put_u32,
-    put_u64, read_counted, read_list, rise,
+    put_u64, read_counted, read_each, read_items, read_list, rise,
 };
 use std::alloc::{AllocError, Global};
 
 // Numbers of two bytes.
+#[derive(Drop)]
 struct Numbers;
 
 impl Reads<u16> for Numbers {
@@ -73,7 +74,7 @@ fn fields_lie_as_the_format_says(rt: HostRuntime) -> Result<(), AllocError> {
 }
 
 #[test]
-fn lists_are_read_up_to_their_limit(rt: HostRuntime) {
+fn lists_are_read_up_to_their_limit(rt: HostRuntime) -> Result<(), ReadError> {
     let bytes = [0u8, 0, 0, 2, 0, 5, 1, 0, 9];
     let cases: [(u32, usize, bool); 4] = [
         (2, 9, true),
@@ -85,29 +86,53 @@ fn lists_are_read_up_to_their_limit(rt: HostRuntime) {
         let mut r = FieldReader::new(&bytes[..len]);
         match read_list(rt.alloc(), &Numbers, limit, &mut r) {
             Ok(items) => {
-                assert!(&rt; reads && items.len() == 2 && items[0] == 5 && items[1] == 256);
-                assert!(&rt; r.left() == 1);
+                assert!(&rt; reads && items.as_slice() == [5, 256].as_slice() && r.left() == 1);
             }
-            Err(e) => assert!(&rt; !reads && matches!(&e, ReadError::Malformed)),
+            Err(ReadError::Malformed) => assert!(&rt; !reads),
+            Err(ReadError::Memory) => return Err(ReadError::Memory),
         }
     }
+    Ok(())
 }
 
 #[test]
-fn counted_lists_have_one_item_a_context(rt: HostRuntime) {
-    let bytes = [0u8, 0, 0, 1, 0, 5];
-    let mut r = FieldReader::new(&bytes);
-    match read_counted(rt.alloc(), &[Numbers], &mut r) {
-        Ok(items) => assert!(&rt; items.len() == 1 && r.left() == 0),
-        Err(_) => panic!(&rt; "one item"),
+fn items_are_as_many_as_are_asked_for(rt: HostRuntime) -> Result<(), ReadError> {
+    let bytes = [0u8, 5, 1, 0, 9];
+    for (count, reads) in [(2u32, true), (3, false)] {
+        let mut r = FieldReader::new(&bytes);
+        match read_items(rt.alloc(), &Numbers, count, &mut r) {
+            Ok(items) => {
+                assert!(&rt; reads && items.as_slice() == [5, 256].as_slice() && r.left() == 1);
+            }
+            Err(ReadError::Malformed) => assert!(&rt; !reads),
+            Err(ReadError::Memory) => return Err(ReadError::Memory),
+        }
     }
-    let mut r = FieldReader::new(&bytes);
-    assert!(&rt;
-        matches!(
-            &read_counted(rt.alloc(), &[Numbers, Numbers], &mut r),
-            Err(ReadError::Malformed)
-        )
-    );
+    Ok(())
+}
+
+#[test]
+fn contexts_have_one_item_each(rt: HostRuntime) -> Result<(), ReadError> {
+    let bytes = [0u8, 0, 0, 2, 0, 5, 1, 0, 9];
+    let contexts = [Numbers, Numbers, Numbers];
+    let mut r = FieldReader::new(&bytes[4..]);
+    let items = read_each(rt.alloc(), &contexts[..2], &mut r)?;
+    assert!(&rt; items.as_slice() == [5, 256].as_slice() && r.left() == 1);
+    for (contexts, reads) in [
+        (&contexts[..1], false),
+        (&contexts[..2], true),
+        (&contexts, false),
+    ] {
+        let mut r = FieldReader::new(&bytes);
+        match read_counted(rt.alloc(), contexts, &mut r) {
+            Ok(items) => {
+                assert!(&rt; reads && items.as_slice() == [5, 256].as_slice() && r.left() == 1);
+            }
+            Err(ReadError::Malformed) => assert!(&rt; !reads),
+            Err(ReadError::Memory) => return Err(ReadError::Memory),
+        }
+    }
+    Ok(())
 }
 
 #[test]
