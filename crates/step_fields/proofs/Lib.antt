@@ -1,0 +1,3 @@
+pub mod DayFacts
+pub mod Exact
+pub mod TextFacts
