@@ -1,0 +1,10 @@
+pub mod Kinds
+pub mod Payloads
+pub mod Words
+pub mod Numbers
+pub mod Quotes
+pub mod Said
+pub mod Symbols
+pub mod Lexemes
+pub mod Cuts
+pub mod Laws
