@@ -1,0 +1,6 @@
+pub mod Bytes
+pub mod Examples
+pub mod Places
+pub mod Readings
+pub mod Tells
+pub mod Walk
