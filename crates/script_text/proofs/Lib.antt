@@ -1,0 +1,2 @@
+pub mod DayTexts
+pub mod Writers

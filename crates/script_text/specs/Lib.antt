@@ -1,0 +1,4 @@
+pub mod Blocks
+pub mod Days
+pub mod Examples
+pub mod Writing
