@@ -1,0 +1,5 @@
+pub mod AddFacts
+pub mod BaseFacts
+pub mod CellFacts
+pub mod JobFacts
+pub mod TaskFacts

@@ -1,0 +1,13 @@
+pub mod Columns
+pub mod Form
+pub mod Rows
+pub mod Cells
+pub mod CellTests
+pub mod Spelling
+pub mod Reading
+pub mod Tasks
+pub mod Products
+pub mod Answers
+pub mod Cube
+pub mod Examples
+pub mod Laws
