@@ -1,7 +1,7 @@
 -- Cells that are filled one after another.
-use Rattle.std.proofs.Common.{◌≡◌, ◌<◌, ◌+◌, ◌∷◌, ◌++◌, [], ℕ, List, length, take, get_or, cond, OnOk, refl, sym, ap, subst, ◌∙◌, Ok, Err, Some, append_assoc}
+use Rattle.std.proofs.Common.{◌≡◌, ◌<◌, ◌+◌, ◌∷◌, ◌++◌, [], ℕ, List, length, take, drop, drop-cons, add-one, suc, get_or, cond, OnOk, refl, sym, ap, subst, ◌∙◌, Ok, Err, Some, append_assoc}
 use Rattle.std.specs.List.{flat_map}
-use Rattle.std.proofs.lemmas.List.{append-nil, take_more}
+use Rattle.std.proofs.lemmas.List.{append-nil, take-append-drop, take_more}
 use Rattle.std.proofs.lemmas.List.Concat.{flat_map-append, flat_map-cons}
 use Rattle.std.specs.declared.option.Option.{Option}
 use Rattle.std.specs.declared.result.Result.{Result}
@@ -33,3 +33,9 @@ put_more {X = X} f xs i x front lt is =
 
 pub four_parts : (a b c d : List ℕ) → ((a ++ b) ++ c) ++ d ≡ a ++ (b ++ (c ++ d))
 four_parts a b c d = simp append_assoc
+
+-- what stands around an item
+pub around : {X : Type 0} (xs : List X) (i : ℕ) (x : X) → i < length xs → x ≡ get_or xs i x → xs ≡ take i xs ++ x ∷ drop (i + 1) xs
+around {X = X} xs i x lt is =
+    let rest : drop i xs ≡ x ∷ drop (i + 1) xs = rw (add-one i) (drop-cons xs i x lt ∙ ap (λ (y : X). y ∷ drop (suc i) xs) (sym is)) in
+    sym (take-append-drop i xs) ∙ ap (λ (ys : List X). take i xs ++ ys) rest

@@ -1,4 +1,5 @@
 pub mod AddFacts
+pub mod AnswerFacts
 pub mod BaseFacts
 pub mod CellFacts
 pub mod JobFacts

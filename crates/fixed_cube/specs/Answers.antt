@@ -1,5 +1,5 @@
 -- The one query, and its answer from cells.
-use Rattle.std.specs.Prelude.{ℕ, zero, suc, ℤ, pos, List, [], ◌∷◌, map, Option, None, Some, codes}
+use Rattle.std.specs.Prelude.{ℕ, ◌==◌, if◌then◌else◌, ℤ, pos, List, [], ◌∷◌, map, Option, None, Some, codes}
 use Rattle.std.specs.List.{flat_map}
 use Rattle.cube_val.specs.declared.val.ColType.TheVariants as ty
 use Rattle.cube_val.specs.declared.val.Val.{Val}
@@ -37,8 +37,7 @@ first_of key = cell key 0 ∷ []
 
 -- a sum, which of no row is null
 abbrev pub sum_shown : ℕ → ℤ → OutVal
-sum_shown zero total = out.Null
-sum_shown (suc n) total = out.Whole total
+sum_shown count total = if count == 0 then out.Null else out.Whole total
 
 -- the group of a cell: its key, its count and its sum
 abbrev pub group_of_cell : Cell → PlainRow

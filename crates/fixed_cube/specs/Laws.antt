@@ -30,8 +30,7 @@ pub record StepsBuild : Type 0 where
   pub sealed : (snapshot : Snapshot) → FitsSnapshot snapshot → sealed_cells snapshot ≡ Some (base_of (rows_of snapshot))
   pub numbers : (snapshot : Snapshot) → FitsSnapshot snapshot → AllByRecursion HasNumber (rows_of snapshot)
 
--- the answer from the base cuboids of lists of joined rows is the plain answer over all of the rows
-abbrev pub AnswersAreGathered : Type 0
-AnswersAreGathered =
-    (lists : List (List (List Val))) → AllByRecursion (AllByRecursion HasNumber) lists
-    → answer_of (map base_of lists) ≡ plain_of by_first (flat_map (λ rows. rows) lists)
+-- the answer from the base cuboids of lists of joined rows is the plain answer over all of the rows, and so it is over snapshots that fit
+pub record AnswersAreGathered : Type 0 where
+  pub lists : (lists : List (List (List Val))) → AllByRecursion (AllByRecursion HasNumber) lists → answer_of (map base_of lists) ≡ plain_of by_first (flat_map (λ rows. rows) lists)
+  pub snapshots : (snapshots : List Snapshot) → AllByRecursion FitsSnapshot snapshots → answer_of (map base_of (map rows_of snapshots)) ≡ plain_of by_first (flat_map rows_of snapshots)

@@ -13,15 +13,17 @@
 //! - [`SmallWork`] makes of a task the one product that the definitions give.
 //! - The products of the three steps of a job over rows that fit are the base cuboid of its joined rows
 //!   ([`steps_build_the_base`]).
+//! - The answer to the query from the cells of segments is the plain answer over their joined rows ([`answer_over`]).
 //!
 //! The modules:
 //!
 //! - `columns`: the columns of F, of joined rows and of keys; `cells`: cells and lists of them.
 //! - `task`, `products`: tasks and products; `reading`: both from their bytes; `job_tasks`: the tasks of a job.
-//! - `steps`: what the steps do; `work`: the same as a child does it.
+//! - `steps`: what the steps do; `work`: the same as a child does it; `answer`: the answer from cells.
 //! - `laws` and `examples`.
 #![tactic(auto)]
 
+mod answer;
 mod cells;
 mod columns;
 mod examples;
@@ -33,11 +35,12 @@ mod steps;
 mod task;
 mod work;
 
+pub use answer::{answer_over, by_first};
 pub use cells::{FixedCell, FixedCells, put_cells, read_cells};
 pub use columns::{FACT_COLUMNS, JOINED_COLUMNS, KEY_COLUMNS, ROW_LIMIT, fact_form};
 pub use examples::worked_examples;
 pub use job_tasks::{first_task, next_task};
-pub use laws::{steps_build_the_base, tasks_are_exact};
+pub use laws::{answers_are_gathered, steps_build_the_base, tasks_are_exact};
 pub use products::{FixedProduct, ProductFault};
 pub use reading::{read_product, read_task};
 pub use steps::{base, product};
