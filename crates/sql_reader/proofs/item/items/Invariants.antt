@@ -1,0 +1,13 @@
+use Rattle.std.proofs.Common.{◌≡◌, [], ◌∷◌, length}
+use Rattle.sql_tokens.specs.declared.kind.Kind.TheVariants as k
+use Rattle.sql_reader.specs.Readers.{read_many}
+use Rattle.sql_reader.specs.Grammar.{push}
+use Rattle.sql_reader.specs.Parsers.{read_after, read_item, read_items}
+use Rattle.sql_reader.proofs.Loops.{gathered}
+use Rattle.sql_reader.proofs.item.items.Given as goal
+
+abbrev pub invariant-more : goal.invariant-more
+invariant-more l = gathered push l.items (read_many (k.Comma ∷ []) (read_after k.Comma read_item) l.rest) ≡ read_items l.tokens
+
+abbrev pub decreases-more : goal.decreases-more
+decreases-more l = length l.rest

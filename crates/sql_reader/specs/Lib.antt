@@ -1,0 +1,9 @@
+pub mod Kinds
+pub mod Rules
+pub mod Readers
+pub mod Grammar
+pub mod Parsers
+pub mod Whole
+pub mod Sql
+pub mod Places
+pub mod Laws
