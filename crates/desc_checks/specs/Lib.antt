@@ -1,0 +1,13 @@
+pub mod Columns
+pub mod Dimensions
+pub mod Faults
+pub mod Firsts
+pub mod Groups
+pub mod Joins
+pub mod Limits
+pub mod Measures
+pub mod Names
+pub mod Repeats
+pub mod Seen
+pub mod Tables
+pub mod Types

@@ -1,0 +1,95 @@
+// The checks in their order.
+#![tactic(auto, using(crate::proofs::FirstLemmas::first_append))]
+
+ghost use Rattle.std.specs.Prelude.{◌≡◌, ℕ, List, [], ◌∷◌, ◌++◌, Option, IfOk, map};
+ghost use Rattle.std.specs.Option.{option_copied, option_or};
+ghost use Rattle.desc_checks.specs.Firsts.{first};
+ghost use Rattle.desc_checks.specs.Faults.{each, faults_of_texts, faults_of_names, faults_of_uses, faults};
+
+use crate::columns::no_column_place;
+use crate::dimensions::{bad_dimension_place, bad_rowkey_place};
+use crate::joins::{bad_join_place, bad_partition_place};
+use crate::kind::{DescFault, DescKind};
+use crate::limits::too_many_place;
+use crate::measures::bad_measure_place;
+use crate::names::bad_name_place;
+use crate::repeats::{owned, twice_place};
+use crate::tables::no_table_place;
+use crate::types::bad_type_place;
+use cube_val::NameText;
+use desc_shape::{Place, RawDesc};
+use std::alloc::{AllocError, Global};
+
+/// The fault of this kind at a place, if there is one.
+pub fn fault_at(
+    alloc: Global,
+    kind: DescKind,
+    place: Option<&Place>,
+) -> Result<Option<DescFault>, AllocError>
+    ensures { IfOk result (λ o. (places : List (List ℕ)) → option_copied place.entry ≡ first places → o ≡ first (each kind places)) }
+{
+    match place {
+        Some(place) => {
+            let place = NameText::new(alloc, place.bytes())?;
+            Ok(Some(DescFault { kind, place }))
+        }
+        None => Ok(None),
+    }
+}
+
+/// The one fault, or else the other.
+pub(crate) fn or_fault(a: Option<DescFault>, b: Option<DescFault>) -> Option<DescFault>
+    ensures { result ≡ option_or a b }
+{
+    match a {
+        Some(fault) => Some(fault),
+        None => b,
+    }
+}
+
+fn first_of_texts(alloc: Global, raw: &RawDesc) -> Result<Option<DescFault>, AllocError>
+    ensures { IfOk result (λ o. o ≡ first (faults_of_texts raw.now)) }
+{
+    let many = fault_at(alloc, DescKind::TooMany, too_many_place(raw))?;
+    let named = fault_at(alloc, DescKind::BadName, bad_name_place(raw))?;
+    let place = twice_place(alloc, raw)?;
+    let twice = fault_at(alloc, DescKind::Twice, place.as_ref())?;
+    Ok(or_fault(or_fault(many, named), twice))
+}
+
+fn first_of_names(alloc: Global, raw: &RawDesc) -> Result<Option<DescFault>, AllocError>
+    ensures { IfOk result (λ o. o ≡ first (faults_of_names raw.now)) }
+{
+    let typed = fault_at(alloc, DescKind::BadType, bad_type_place(raw))?;
+    let table = fault_at(alloc, DescKind::NoTable, no_table_place(raw))?;
+    let column = fault_at(alloc, DescKind::NoColumn, no_column_place(raw))?;
+    Ok(or_fault(or_fault(typed, table), column))
+}
+
+fn first_of_uses(alloc: Global, raw: &RawDesc) -> Result<Option<DescFault>, AllocError>
+    ensures { IfOk result (λ o. o ≡ first (faults_of_uses raw.now)) }
+{
+    let join = fault_at(alloc, DescKind::BadJoin, bad_join_place(raw))?;
+    let partition = fault_at(alloc, DescKind::BadPartition, bad_partition_place(raw))?;
+    let dimension = fault_at(alloc, DescKind::BadDimension, bad_dimension_place(raw))?;
+    let place = bad_measure_place(alloc, raw)?;
+    let measure = fault_at(alloc, DescKind::BadMeasure, place)?;
+    let rowkey = fault_at(alloc, DescKind::BadRowkey, bad_rowkey_place(raw))?;
+    let to_dimension = or_fault(or_fault(join, partition), dimension);
+    Ok(or_fault(or_fault(to_dimension, measure), rowkey))
+}
+
+/// The first fault of a descriptor whose shape is right, from TooMany to BadRowkey.
+pub fn first_fault(alloc: Global, raw: &RawDesc) -> Result<Option<DescFault>, AllocError>
+    ensures { IfOk result (λ o. o ≡ first (faults raw.now)) }
+{
+    let of_texts = first_of_texts(alloc, raw)?;
+    if of_texts.is_some() {
+        return Ok(of_texts);
+    }
+    let of_names = first_of_names(alloc, raw)?;
+    if of_names.is_some() {
+        return Ok(of_names);
+    }
+    first_of_uses(alloc, raw)
+}
