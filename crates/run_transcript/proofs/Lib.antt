@@ -1,0 +1,4 @@
+pub mod Told
+pub mod Histories
+pub mod Unanswered
+pub mod SmallAnswer
