@@ -1,0 +1,10 @@
+pub mod Bodies
+pub mod Columns
+pub mod Examples
+pub mod Faults
+pub mod Keys
+pub mod Laws
+pub mod Reads
+pub mod Records
+pub mod Rows
+pub mod Tables

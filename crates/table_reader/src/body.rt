@@ -1,0 +1,66 @@
+// The records after the header, read one by one.
+
+ghost use Rattle.std.specs.Prelude.{◌≡◌, ◌∷◌, [], ℕ, List, IfOk};
+ghost use Rattle.table_reader.specs.Bodies.{IsBodyOf};
+ghost use Rattle.table_reader.specs.Reads.{HasRead};
+
+use crate::fault::{TableFault, TableKind, TableRefusal};
+use crate::header::Column;
+use crate::records::read_next;
+use crate::row::read_row;
+use csv::{ByteRecord, Reader};
+use cube_val::Row;
+use std::alloc::{AllocError, Global};
+
+/// The most rows of a table.
+const MOST_ROWS: u32 = 200_000;
+
+/// The rows up to the end of a file, or up to the first record that has a fault by itself, and then that fault.
+#[derive(Drop)]
+pub struct Body {
+    pub rows: Vec<Row>,
+    pub fault: Option<TableFault>,
+}
+
+/// Reads the records after the header, which has `width` fields.
+pub fn read_body(
+    alloc: Global,
+    columns: &[Column],
+    width: usize,
+    reader: &mut Reader<&[u8]>,
+    found: &mut ByteRecord,
+) -> Result<Body, AllocError>
+    ensures { IfOk result (λ body. (bytes : List ℕ) (header : List (List ℕ)) → HasRead bytes (header ∷ []) reader.old
+        → IsBodyOf columns.now width bytes header body.rows.items body.fault) }
+{
+    let mut rows = Vec::new(alloc);
+    for turn in 0..MOST_ROWS {
+        match read_next(reader, found) {
+            Ok(true) => {}
+            Ok(false) => return Ok(Body { rows, fault: None }),
+            Err(e) => return Err(e),
+        }
+        let row = match read_row(alloc, columns, width, turn + 1, found) {
+            Ok(row) => row,
+            Err(TableRefusal::Fault(fault)) => {
+                return Ok(Body {
+                    rows,
+                    fault: Some(fault),
+                });
+            }
+            Err(TableRefusal::Memory) => return Err(AllocError),
+        };
+        rows.push(row)?;
+    }
+    match read_next(reader, found) {
+        Ok(true) => {
+            let fault = TableFault::in_row(MOST_ROWS + 1, TableKind::TooManyRows);
+            Ok(Body {
+                rows,
+                fault: Some(fault),
+            })
+        }
+        Ok(false) => Ok(Body { rows, fault: None }),
+        Err(e) => Err(e),
+    }
+}
