@@ -1,0 +1,4 @@
+pub mod States
+pub mod Orders
+pub mod Answers
+pub mod Examples

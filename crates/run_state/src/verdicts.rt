@@ -1,0 +1,115 @@
+// What refuses a submission.
+
+ghost use Rattle.std.specs.Prelude.{◌≡◌, ◌≤◌, ◌&&◌, ℕ, Some, None, IfOk, IfSome, count_by, find, length, map, option_map, position, is_none};
+ghost use Rattle.job_machine.specs.declared.state.JobKind.TheVariants.{Build};
+ghost use Rattle.run_history.specs.Commands.Command.{Submit};
+ghost use Rattle.run_history.specs.Sets.{is_overlap};
+ghost use Rattle.run_history.specs.Verdicts.{verdict};
+ghost use Rattle.run_history.specs.World.{World, is_build, is_live};
+ghost use Rattle.run_state.specs.Answers.{named};
+ghost use Rattle.run_state.specs.Orders.{IsOrderly};
+ghost use Rattle.run_state.specs.States.{IsStateOf};
+
+use crate::parts::{JobEntry, RunState};
+use crate::table::TableHandle;
+use cube_val::NameText;
+use job_machine::{Job, JobKind, JobState};
+use range_list::{Range, RangeList};
+use run_history::Refused;
+use std::alloc::AllocError;
+
+/// The most ready segments and live BUILD jobs together.
+const MOST_SEGMENTS: usize = 128;
+
+fn live(state: JobState) -> bool
+    ensures { result ≡ is_live state }
+{
+    match state {
+        JobState::Discarded | JobState::Finished => false,
+        JobState::Pending | JobState::Running | JobState::Error | JobState::Stopped => true,
+    }
+}
+
+fn live_build(job: &Job) -> bool
+    ensures { result ≡ (is_live job.now.state && is_build job.now.kind) }
+{
+    match job.kind {
+        JobKind::Build => live(job.state),
+        JobKind::Refresh | JobKind::Merge => false,
+    }
+}
+
+fn overlap(a: &Range, b: &Range) -> bool
+    ensures { result ≡ is_overlap a.now b.now }
+{
+    a.start() < b.end() && b.start() < a.end()
+}
+
+// The place of the first table that no load has given.
+fn first_absent<T>(loaded: &[Option<T>]) -> Option<usize>
+    ensures { result ≡ position is_none loaded.now }
+{
+    loaded.iter().position(|table| table.is_none())
+}
+
+// How many live BUILD jobs there are.
+fn builds<T, P>(jobs: &[JobEntry<T, P>]) -> usize
+    ensures { result ≡ count_by (λ entry. is_live entry.job.state && is_build entry.job.kind) jobs.now }
+{
+    jobs.iter().filter(|entry| live_build(&entry.job)).count()
+}
+
+// The job is live and its range overlaps.
+fn blocks<T, P>(entry: &JobEntry<T, P>, range: &Range) -> bool
+    ensures { result ≡ (is_live entry.now.job.state && is_overlap entry.now.range range.now) }
+{
+    live(entry.job.state) && overlap(&entry.range, range)
+}
+
+// The number of the first live job whose range overlaps.
+fn overlapping_job<T, P>(jobs: &[JobEntry<T, P>], range: &Range) -> Option<u32>
+    ensures { result ≡ option_map (λ entry. entry.job.id) (find (λ entry. is_live entry.job.state && is_overlap entry.range range.now) jobs.now) }
+{
+    jobs.iter()
+        .find(|entry| blocks(entry, range))
+        .map(|entry| entry.job.id)
+}
+
+// The first range that overlaps.
+fn overlapping_range(ranges: &RangeList, range: &Range) -> Option<Range>
+    ensures { result ≡ find (λ other. is_overlap other range.now) ranges.now }
+{
+    for place in 0..ranges.len() {
+        let other = ranges.get(place);
+        if overlap(&other, range) {
+            return Some(other);
+        }
+    }
+    None
+}
+
+/// The first refusal that applies to a BUILD of a range, where the tables have these names; `None` where it is accepted.
+pub fn build_refusal<T: TableHandle, P: Drop, S: Drop, Q: Drop>(
+    state: &RunState<T, P, S, Q>,
+    names: &[NameText],
+    range: &Range,
+) -> Result<Option<Refused>, AllocError>
+    requires orderly { IsOrderly state.now }
+    requires names { length names.now ≡ length state.now.loaded.items }
+    ensures { IfOk result (λ refusal. (w : World Q) → IsStateOf T.rows w state.now → refusal ≡ verdict (named names.now) w (Submit Build range.now)) }
+{
+    if let Some(table) = first_absent(&state.loaded) {
+        let name = names[table].copy()?;
+        return Ok(Some(Refused::NotLoaded(name)));
+    }
+    if state.segments.len() + builds(&state.jobs) >= MOST_SEGMENTS {
+        return Ok(Some(Refused::TooManySegments));
+    }
+    if let Some(other) = overlapping_range(&state.ranges, range) {
+        return Ok(Some(Refused::OverlapsSegment(other)));
+    }
+    match overlapping_job(&state.jobs, range) {
+        None => Ok(None),
+        Some(job) => Ok(Some(Refused::OverlapsJob(job))),
+    }
+}
