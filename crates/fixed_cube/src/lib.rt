@@ -46,3 +46,6 @@ pub use reading::{read_product, read_task};
 pub use steps::{base, product};
 pub use task::{FixedTask, FlatWork};
 pub use work::SmallWork;
+
+#[cfg(test)]
+mod tests;

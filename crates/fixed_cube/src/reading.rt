@@ -63,12 +63,12 @@ fn read_front(alloc: Global, r: &mut FieldReader) -> Result<FixedTask, ReadError
 fn whole_task(alloc: Global, bytes: &[u8]) -> Result<FixedTask, ReadError>
     ensures { Gives (λ task. task) result (task_of bytes.now) }
 {
-    let mut r = FieldReader::new(bytes);
-    let task = match read_front(alloc, &mut r) {
+    let mut reader = FieldReader::new(bytes);
+    let task = match read_front(alloc, &mut reader) {
         Ok(task) => task,
         Err(e) => return Err(e),
     };
-    if r.left() != 0 {
+    if reader.left() != 0 {
         return Err(ReadError::Malformed);
     }
     Ok(task)
