@@ -1,2 +1,3 @@
+pub mod FileFacts
 pub mod GroupFacts
 pub mod TableFacts

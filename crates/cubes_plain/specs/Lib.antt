@@ -2,7 +2,6 @@ pub mod Examples
 pub mod Files
 pub mod Folds
 pub mod Outputs
-pub mod Reads
 pub mod Rows
 pub mod Tables
 pub mod Words

@@ -1,9 +1,9 @@
 //! The commands that run no jobs. `fold PATH` reads a CSV file with the header `D1,D2,M` and writes, for each D1 in
 //! order, how many rows it has and the sum of their M.
 //!
-//! The crate stands near the top: it reads through `outside::Files`, keeps rows as `cube_val` has them, aggregates
+//! The crate stands near the top: it reads through `outside::Files` and `table_reader`, keeps rows as `cube_val` has them, aggregates
 //! them by `aggregation` and `measure_laws`, and writes through `outside::Sink`. The way of the data is `words` (which
-//! command), `rows` (the bytes of a file to rows, by the records of the `csv` crate), `cells` (the rows to the cuboid by
+//! command), `rows` (the bytes of a file to rows, by `table_reader`), `cells` (the rows to the cuboid by
 //! D1, by way of the cells by both columns, one D1 after another), `fold` (the cells to text) and `plain` (the top call).
 //!
 //! The invariant at its boundary is the contract of `run_plain`: which status comes when, and what was written then.
@@ -21,7 +21,6 @@ mod words;
 
 pub use examples::worked_examples;
 pub use plain::run_plain;
-pub use rows::one_table;
 
 #[cfg(test)]
 mod tests;

@@ -2,40 +2,48 @@
 
 ghost use Rattle.std.specs.Prelude.{◌≡◌, ◌≢◌, ◌⊎◌, ◌++◌, ◌∷◌, [], ℕ, List, IfOk, IsErrOf, codes};
 ghost use Rattle.cube_val.specs.declared.val.Val.{Val};
-ghost use Rattle.cubes_plain.specs.Files.{AcceptedAt, NotAcceptedAt, TellsAcceptedAt, TellsNotAcceptedAt, TellsNothingAt};
+ghost use Rattle.cubes_plain.specs.Files.{AcceptedAt, FaultyAt, TellsAcceptedAt, TellsFaultyAt, TellsLongerAt, TellsNothingAt, most_bytes};
 ghost use Rattle.cubes_plain.specs.Folds.{fold_text};
-ghost use Rattle.cubes_plain.specs.Outputs.{Appends, AppendsAll, bad_table_line, bad_words_line, read_fault_line};
-ghost use Rattle.cubes_plain.specs.Tables.{IsFoldTable, IsNoFoldTable};
+ghost use Rattle.cubes_plain.specs.Outputs.{Appends, AppendsAll, bad_table_line, bad_words_line, read_fault_line, too_large_line};
+ghost use Rattle.cubes_plain.specs.Tables.{IsFoldFault, IsFoldTable};
 ghost use Rattle.cubes_plain.specs.Words.{IsFold, IsNoCommand};
+ghost use Rattle.outside.specs.Contents.{IsLongerAt, IsNotLongerAt};
 ghost use Rattle.outside.specs.Counts.{Rose};
 ghost use Rattle.outside.specs.Written.{AppendsPart};
+ghost use Rattle.table_reader.specs.declared.fault.TableFault.{TableFault};
 
 use crate::fold::fold_text;
-use crate::rows::{RowsRefusal, read_rows};
-use crate::status::{BAD_TABLE, BAD_WORDS, DONE, MEMORY, READ_FAULT, WRITE_FAULT};
+use crate::rows::{column_text, kind_text, read_rows};
+use crate::status::{BAD_TABLE, BAD_WORDS, DONE, MEMORY, READ_FAULT, TOO_LARGE, WRITE_FAULT};
 use crate::words::fold_path;
 use outside::{FileFault, Files, Sink, SinkFault};
 use std::alloc::Global;
 use std::thread::Threads;
+use table_reader::{TableFault, TableRefusal};
+
+/// The most bytes of a file: 64 MiB.
+const MOST_BYTES: u64 = 64 * 1024 * 1024;
 
 // Why a command has no output.
 #[derive(Clone, Copy)]
 enum Fault {
     Memory,
     ReadFault,
-    BadTable,
+    TooLarge,
+    BadTable(TableFault),
 }
 
 // The text of `fold` over the bytes of a file.
 fn text_of_bytes(alloc: Global, bytes: &[u8]) -> Result<Vec<u8>, Fault>
     ensures ok { IfOk result (λ text. (rows : List (List Val)) × IsFoldTable bytes.now rows × (text.items ≡ fold_text rows)) }
-    ensures bad { IsErrOf result Fault.BadTable → IsNoFoldTable bytes.now }
+    ensures bad { (f : TableFault) → result ≡ Err (Fault.BadTable f) → IsFoldFault bytes.now f }
     ensures read { result ≢ Err Fault.ReadFault }
+    ensures large { result ≢ Err Fault.TooLarge }
 {
     let rows = match read_rows(alloc, bytes) {
         Ok(rows) => rows,
-        Err(RowsRefusal::BadTable) => return Err(Fault::BadTable),
-        Err(RowsRefusal::Memory) => return Err(Fault::Memory),
+        Err(TableRefusal::Fault(fault)) => return Err(Fault::BadTable(fault)),
+        Err(TableRefusal::Memory) => return Err(Fault::Memory),
     };
     match fold_text(alloc, &rows) {
         Ok(text) => Ok(text),
@@ -47,14 +55,17 @@ fn text_of_bytes(alloc: Global, bytes: &[u8]) -> Result<Vec<u8>, Fault>
 fn fold_output<F: Files>(alloc: Global, path: &str, files: &mut F) -> Result<Vec<u8>, Fault>
     ensures ok { IfOk result (λ text. (rows : List (List Val)) × AcceptedAt (F.contents files.old) path.now rows × (text.items ≡ fold_text rows)) }
     ensures read { IsErrOf result Fault.ReadFault → Rose (F.faults files.old) (F.faults files.new) }
-    ensures bad { IsErrOf result Fault.BadTable → NotAcceptedAt (F.contents files.old) path.now }
+    ensures read_not_longer { IsErrOf result Fault.ReadFault → IsNotLongerAt (F.contents files.old) path.now most_bytes }
+    ensures large { IsErrOf result Fault.TooLarge → IsLongerAt (F.contents files.old) path.now most_bytes }
+    ensures bad { (f : TableFault) → result ≡ Err (Fault.BadTable f) → FaultyAt (F.contents files.old) path.now f }
     ensures contents { F.contents files.new ≡ F.contents files.old }
     ensures write_faults { F.write_faults files.new ≡ F.write_faults files.old }
 {
-    let bytes = match files.read(alloc, path, u64::MAX) {
+    let bytes = match files.read(alloc, path, MOST_BYTES) {
         Ok(bytes) => bytes,
         Err(FileFault::Failed) => return Err(Fault::ReadFault),
-        Err(_) => return Err(Fault::Memory),
+        Err(FileFault::TooLong) => return Err(Fault::TooLarge),
+        Err(FileFault::Memory) => return Err(Fault::Memory),
     };
     text_of_bytes(alloc, bytes.as_slice())
 }
@@ -101,6 +112,21 @@ fn refuse_path<S: Sink>(alloc: Global, sink: &mut S, kind: &str, path: &str, sta
     }
 }
 
+// Writes the fault line of a table, and says the status.
+fn refuse_table<S: Sink>(alloc: Global, sink: &mut S, path: &str, fault: TableFault) -> u8
+    ensures status { (result ≡ BAD_TABLE) ⊎ (result ≡ MEMORY) }
+    ensures line { result ≡ BAD_TABLE → Appends (S.faults sink.old) (S.faults sink.new) (S.written sink.old) (S.written sink.new) (bad_table_line path.now fault) }
+    ensures memory { result ≡ MEMORY → S.written sink.new ≡ S.written sink.old }
+{
+    let row = fault.row;
+    let column = column_text(fault.column);
+    let kind = kind_text(fault.kind);
+    match format!(in alloc; "fault: BadTable {path} {row} {column} {kind}\n") {
+        Ok(line) => refuse(sink, line.as_bytes(), BAD_TABLE),
+        Err(_) => MEMORY,
+    }
+}
+
 /// Runs a command that runs no jobs, and says its status, one of those in `status`. The words do not hold the
 /// program's own name. A command reads its file, then works, then writes its output in one piece; where it has no
 /// output it writes one fault line. Want of memory is free: its status may stand in place of every other one.
@@ -111,7 +137,8 @@ pub fn run_plain<R: Threads, F: Files, S: Sink>(
     files: &mut F,
     sink: &mut S,
 ) -> u8
-    ensures status { (result ≡ DONE) ⊎ (result ≡ MEMORY) ⊎ (result ≡ BAD_WORDS) ⊎ (result ≡ READ_FAULT) ⊎ (result ≡ WRITE_FAULT) ⊎ (result ≡ BAD_TABLE) }
+    ensures status { (result ≡ DONE) ⊎ (result ≡ MEMORY) ⊎ (result ≡ BAD_WORDS) ⊎ (result ≡ READ_FAULT) ⊎ (result ≡ WRITE_FAULT)
+        ⊎ (result ≡ BAD_TABLE) ⊎ (result ≡ TOO_LARGE) }
 
     // Done: the text of `fold` over exactly the rows of the accepted file.
     ensures done { result ≡ DONE → (path : List ℕ) × (rows : List (List Val)) × IsFold words.now path
@@ -136,12 +163,18 @@ pub fn run_plain<R: Threads, F: Files, S: Sink>(
     ensures write_fault_part { result ≡ WRITE_FAULT → (path : List ℕ) × (rows : List (List Val)) × IsFold words.now path
         × AcceptedAt (F.contents files.old) path rows × AppendsPart (S.written sink.old) (S.written sink.new) (fold_text rows) }
 
-    // A bad table: exactly where the file that was read is not accepted.
-    ensures bad_table { result ≡ BAD_TABLE → (path : List ℕ) × IsFold words.now path
-        × NotAcceptedAt (F.contents files.old) path
-        × Appends (S.faults sink.old) (S.faults sink.new) (S.written sink.old) (S.written sink.new) (bad_table_line path) }
-    ensures not_accepted { (path : List ℕ) → IsFold words.now path → TellsNotAcceptedAt (F.contents files.old) path
+    // A bad table: exactly where the file that was read is none, with its first fault.
+    ensures bad_table { result ≡ BAD_TABLE → (path : List ℕ) × (fault : TableFault) × IsFold words.now path
+        × FaultyAt (F.contents files.old) path fault
+        × Appends (S.faults sink.old) (S.faults sink.new) (S.written sink.old) (S.written sink.new) (bad_table_line path fault) }
+    ensures faulty { (path : List ℕ) (fault : TableFault) → IsFold words.now path → TellsFaultyAt (F.contents files.old) path fault
         → (result ≡ BAD_TABLE) ⊎ (result ≡ READ_FAULT) ⊎ (result ≡ MEMORY) }
+
+    // Too large: exactly where the file has more than 64 MiB.
+    ensures too_large { result ≡ TOO_LARGE → (path : List ℕ) × IsFold words.now path
+        × IsLongerAt (F.contents files.old) path most_bytes
+        × Appends (S.faults sink.old) (S.faults sink.new) (S.written sink.old) (S.written sink.new) (too_large_line path) }
+    ensures longer { (path : List ℕ) → IsFold words.now path → TellsLongerAt (F.contents files.old) path → (result ≡ TOO_LARGE) ⊎ (result ≡ MEMORY) }
 
     // Complete: a command over an accepted file is done where nothing outside fails.
     ensures complete { (path : List ℕ) (rows : List (List Val)) → IsFold words.now path → TellsAcceptedAt (F.contents files.old) path rows
@@ -158,6 +191,7 @@ pub fn run_plain<R: Threads, F: Files, S: Sink>(
         Ok(text) => finish(sink, text.as_slice()),
         Err(Fault::Memory) => MEMORY,
         Err(Fault::ReadFault) => refuse_path(alloc, sink, "ReadFault", path, READ_FAULT),
-        Err(Fault::BadTable) => refuse_path(alloc, sink, "BadTable", path, BAD_TABLE),
+        Err(Fault::TooLarge) => refuse_path(alloc, sink, "TooLarge", path, TOO_LARGE),
+        Err(Fault::BadTable(fault)) => refuse_table(alloc, sink, path, fault),
     }
 }

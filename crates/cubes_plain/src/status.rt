@@ -17,3 +17,6 @@ pub const WRITE_FAULT: u8 = 4;
 
 /// A file that was read is not the table that the command takes.
 pub const BAD_TABLE: u8 = 8;
+
+/// A file that was to be read has more bytes than one may have.
+pub const TOO_LARGE: u8 = 10;
