@@ -2,8 +2,13 @@
 
 import os
 import subprocess
+import sys
+import tempfile
 import time
 from dataclasses import dataclass
+
+HERE = os.path.dirname(os.path.abspath(__file__))
+REPEATS = 5
 
 
 @dataclass
@@ -36,3 +41,26 @@ def fastest(words, repeats):
 
 def megabytes(count):
     return f"{count / 2**20:.1f} MiB"
+
+
+def compare(table_script, ours, yardstick):
+    """Times two commands on one seeded table, in one run, and prints both with their ratios.
+
+    `table_script` is the script beside this one that writes the table, given its path and a number of rows: the first word of
+    the command line, else 200,000. `ours` and `yardstick` are each a name and the words of a command, to which the table's
+    path is added. The two must write the same.
+    """
+    rows = int(sys.argv[1]) if len(sys.argv) > 1 else 200000
+    with tempfile.TemporaryDirectory() as folder:
+        table = os.path.join(folder, "table.csv")
+        subprocess.run([sys.executable, os.path.join(HERE, table_script), table, str(rows)], check=True)
+        size = os.path.getsize(table)
+        runs = [(name, fastest([*words, table], REPEATS)) for name, words in (ours, yardstick)]
+    (_, one), (_, other) = runs
+    if one.output != other.output:
+        raise SystemExit("the two outputs differ")
+    print(f"{'rows':<15} {rows} ({megabytes(size)})")
+    for name, taken in runs:
+        print(f"{name:<15} {taken.seconds:.3f} s, peak {megabytes(taken.peak_bytes)}")
+    print(f"{'time ratio':<15} {one.seconds / other.seconds:.2f}")
+    print(f"{'memory / file':<15} {one.peak_bytes / size:.1f}")
