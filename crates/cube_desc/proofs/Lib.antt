@@ -1,0 +1,4 @@
+pub mod FirstColumns
+pub mod GroupLemmas
+pub mod Judged
+pub mod Passed

@@ -1,0 +1,5 @@
+pub mod Cube
+pub mod Forms
+pub mod Groups
+pub mod Meaning
+pub mod Resolve

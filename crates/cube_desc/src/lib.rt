@@ -1,0 +1,27 @@
+//! The cube descriptor: a JSON file that says which tables a cube has, how they are joined, which dimensions and measures
+//! it has and which cuboids it builds; read exactly, or refused with the first fault and its place.
+//!
+//! `read_desc` is the whole: it reads the shape (`desc_shape`), runs the checks (`desc_checks`) and resolves names to numbers.
+//! What bytes mean is a function of the bytes (`meaning` in `specs/Meaning.antt`), so formats that hold a descriptor go on
+//! from it.
+//!
+//! At its boundary:
+//!
+//! - A `CubeDesc` keeps its bytes, and its type keeps that it is what they mean, so nobody reads or checks them again.
+//! - Tables, columns and dimensions are numbers from here on: the fact table is 0, the lookups follow in their order, a
+//!   dimension is the place of its column in the rowkey.
+//!
+//! The modules: `desc` (the descriptor), `resolve` (names to numbers), `groups` (aggregation groups and cuboids), `read`.
+#![tactic(auto)]
+
+mod desc;
+mod groups;
+mod read;
+mod resolve;
+
+pub use desc::{CubeDesc, CubeParts, DerivedDesc, MeasureDesc, TableDesc};
+pub use desc_checks::{DescFault, DescKind};
+pub use read::{DescRefusal, read_desc};
+
+#[cfg(test)]
+mod tests;

@@ -1,0 +1,191 @@
+use super::*;
+use cube_val::{Items, WideCol};
+use std::alloc::{AllocError, Global};
+use std::test::Fail;
+
+// A cube of a fact table F and a lookup L, with ' for ".
+const BASE: &str =
+    "{'name':'c','tables':[{'name':'F','columns':[{'name':'D','type':'date'},{'name':'K','type':'int'},{'name':'M','type':'decimal'},{'name':'T','type':'text'}]},{'name':'L','columns':[{'name':'I','type':'int'},{'name':'V','type':'text'}]}],'fact_table':'F','lookups':[{'table':'L','join':{'type':'left','primary_key':['I'],'foreign_key':['K']}}],'partition_date_column':'D','dimensions':[{'table':'F','column':'D'},{'table':'L','derived':['V']}],'measures':[{'name':'N','function':{'expression':'COUNT','parameter':{'type':'constant','value':'1'}}},{'name':'S','function':{'expression':'SUM','parameter':{'type':'column','value':'m'}}}],'rowkey':['F.D','f.k'],'aggregation_groups':[{'includes':['F.D','F.K']}]}";
+
+// Ten dimensions in one group, with ' for ".
+const WIDE: &str =
+    "{'name':'w','tables':[{'name':'F','columns':[{'name':'A','type':'date'},{'name':'B','type':'int'},{'name':'C','type':'int'},{'name':'D','type':'int'},{'name':'E','type':'int'},{'name':'G','type':'int'},{'name':'H','type':'int'},{'name':'I','type':'int'},{'name':'J','type':'int'},{'name':'K','type':'int'}]}],'fact_table':'F','partition_date_column':'A','dimensions':[{'table':'F','column':'A'},{'table':'F','column':'B'},{'table':'F','column':'C'},{'table':'F','column':'D'},{'table':'F','column':'E'},{'table':'F','column':'G'},{'table':'F','column':'H'},{'table':'F','column':'I'},{'table':'F','column':'J'},{'table':'F','column':'K'}],'measures':[],'rowkey':['F.A','F.B','F.C','F.D','F.E','F.G','F.H','F.I','F.J','F.K'],'aggregation_groups':[{'includes':['F.A','F.B','F.C','F.D','F.E','F.G','F.H','F.I','F.J','F.K']}]}";
+
+// A text of the base and what stands in its place, twice, and what is answered, parted by |.
+const CASES: &str = "\
+||||ok
+{'name':'c'|'name':'c'|||NotJson
+'c'|'c|||NotJson
+'c'|1e999|||NotJson
+'name':'c'|'name':3|||Shape /name
+'name':'c',||||Shape /name
+'c'|3,'name':'c'|||ok
+{'name':'c'|{'more':[1],'name':'c'|||ok
+'type':'decimal'|'type':7|||Shape /tables/0/columns/2/type
+{'name':'V','type':'text'}|[]|||Shape /tables/1/columns/1
+'fact_table':'F',||||Shape /fact_table
+['F.D','f.k']|null|||Shape /rowkey
+[{'includes':['F.D','F.K']}]|null|||Shape /aggregation_groups
+,'aggregation_groups':[{'includes':['F.D','F.K']}]||||ok
+'F.K']}|'F.K'],'select_rule':{'joint_dims':[[],[4]]}}|||Shape /aggregation_groups/0/select_rule/joint_dims/1/0
+'F.K']}|'F.K'],'select_rule':{}}|||ok
+'column':'D'|'column':'D','derived':[]|'table':'F','column'|'column'|Shape /dimensions/0
+,'column':'D'||||Shape /dimensions/0
+['V']|['V',7]|||Shape /dimensions/1/derived/1
+[{'name':'I','type':'int'},{'name':'V','type':'text'}]|[]|||TooMany /tables/1/columns
+['F.D','f.k']|[]|||TooMany /rowkey
+{'includes':['F.D','F.K']}|{'includes':[]},{'includes':[]},{'includes':[]},{'includes':[]},{'includes':[]},{'includes':[]},{'includes':[]},{'includes':[]},{'includes':[]}|||TooMany /aggregation_groups
+'c'|''|||BadName /name
+'c'|'1c'|||BadName /name
+'c'|'_234567890123456789012345678901234567890123456789012345678901abc'|||ok
+'c'|'_234567890123456789012345678901234567890123456789012345678901abcd'|||BadName /name
+'f.k'|'f'|||BadName /rowkey/1
+'f.k'|'f.k.k'|||BadName /rowkey/1
+'F.K'|'F.k-'|||BadName /aggregation_groups/0/includes/1
+'name':'L'|'name':'f'|||Twice /tables/1
+'name':'V'|'name':'i'|||Twice /tables/1/columns/1
+'name':'T'|'name':'d'|||Twice /tables/0/columns/3
+'table':'L','join'|'table':'f','join'|||Twice /lookups/0
+{'table':'L','derived':['V']}|{'table':'f','column':'d'}|||Twice /dimensions/1
+['V']|['V','I','v']|||Twice /dimensions/1/derived/2
+'name':'S'|'name':'n'|||Twice /measures/1
+'f.k'|'f.k','f.d'|||Twice /rowkey/2
+'type':'decimal'|'type':'Decimal'|||BadType /tables/0/columns/2/type
+'fact_table':'F'|'fact_table':'G'|||NoTable /fact_table
+'table':'L','join'|'table':'G','join'|||NoTable /lookups/0/table
+'table':'L','derived'|'table':'G','derived'|||NoTable /dimensions/1/table
+'f.k'|'g.k'|||NoTable /rowkey/1
+'F.K'|'G.K'|||NoTable /aggregation_groups/0/includes/1
+['I']|['K']|||NoColumn /lookups/0/join/primary_key/0
+['K']|['I']|||NoColumn /lookups/0/join/foreign_key/0
+'partition_date_column':'D'|'partition_date_column':'V'|||NoColumn /partition_date_column
+['V']|['T']|||NoColumn /dimensions/1/derived/0
+'value':'m'|'value':'v'|||NoColumn /measures/1/function/parameter/value
+'constant','value':'1'|'column','value':'1'|||NoColumn /measures/0/function/parameter/value
+'f.k'|'f.v'|||NoColumn /rowkey/1
+'left'|'outer'|||BadJoin /lookups/0/join
+['K']|['K','M']|||BadJoin /lookups/0/join
+['K']|['T']|||BadJoin /lookups/0/join
+['K']|[]|['I']|[]|BadJoin /lookups/0/join
+'partition_date_column':'D'|'partition_date_column':'K'|||BadPartition /partition_date_column
+['V']|[]|||BadDimension /dimensions/1
+{'table':'L','derived':['V']}|{'table':'F','derived':['T']}|||BadDimension /dimensions/1
+'SUM'|'sum'|||BadMeasure /measures/1
+'value':'m'|'value':'t'|||BadMeasure /measures/1
+'column','value':'m'|'constant','value':'zz'|||BadMeasure /measures/1
+'value':'1'|'value':'2'|||BadMeasure /measures/0
+'SUM','parameter':{'type':'column','value':'m'}|'COUNT','parameter':{'type':'constant','value':'1'}|||BadMeasure /measures/1
+'SUM'|'COUNT_DISTINCT'|'value':'m'|'value':'T'|ok
+'f.k'|'f.m'|||BadRowkey /dimensions/1
+'F.D','f.k'|'f.k'|||BadRowkey /dimensions/0
+'f.k'|'f.k','f.m'|||BadRowkey /rowkey/2
+'F.K'|'F.M'|||BadGroup /aggregation_groups/0
+['F.D','F.K']|[]|||BadGroup /aggregation_groups/0
+'F.K']}|'F.K'],'select_rule':{'hierarchy_dims':[['F.K']]}}|||BadGroup /aggregation_groups/0
+'f.k'|3|'F.D','F.K'||Shape /rowkey/1
+'c'|'-'|['F.D','f.k']|[]|TooMany /rowkey
+'name':'V'|'name':'i'|'F.K'|'F.'|BadName /aggregation_groups/0/includes/1
+'type':'decimal'|'type':'x'|'f.k'|'f.d'|Twice /rowkey/1
+'type':'decimal'|'type':'x'|'fact_table':'F'|'fact_table':'G'|BadType /tables/0/columns/2/type
+['I']|['K']|'F.K'|'G.K'|NoTable /aggregation_groups/0/includes/1
+'left'|'outer'|'F.K'|'F.V'|NoColumn /aggregation_groups/0/includes/1
+'left'|'outer'|'partition_date_column':'D'|'partition_date_column':'K'|BadJoin /lookups/0/join
+['V']|[]|'partition_date_column':'D'|'partition_date_column':'K'|BadPartition /partition_date_column
+['V']|[]|'SUM'|'sum'|BadDimension /dimensions/1
+'f.k'|'f.m'|'SUM'|'sum'|BadMeasure /measures/1
+'f.k'|'f.k','f.m'|['F.D','F.K']|[]|BadRowkey /rowkey/2
+";
+
+fn with_quotes(alloc: Global, text: &str) -> Result<String, AllocError> {
+    text.chars()
+        .map(|c| if c == '\'' { '"' } else { c })
+        .collect(alloc)
+}
+
+// The text with the first `old` changed to `new`.
+fn changed(alloc: Global, text: &str, old: &str, new: &str) -> Result<String, AllocError> {
+    match text.split_once(old) {
+        Some((before, after)) => format!(in alloc; "{before}{new}{after}"),
+        None => String::from_str(alloc, text),
+    }
+}
+
+fn answer(alloc: Global, bytes: &[u8]) -> Result<String, AllocError> {
+    match read_desc(alloc, bytes) {
+        Ok(_) => String::from_str(alloc, "ok"),
+        Err(DescRefusal::Fault(fault)) => {
+            let place = str::from_utf8(fault.place.bytes()).unwrap_or("?");
+            let kind = fault.kind;
+            if place.is_empty() {
+                format!(in alloc; "{kind:?}")
+            } else {
+                format!(in alloc; "{kind:?} {place}")
+            }
+        }
+        Err(DescRefusal::Memory) => String::from_str(alloc, "no memory"),
+    }
+}
+
+fn answer_of_case(alloc: Global, line: &str) -> Result<(String, String), AllocError> {
+    let mut fields = line.split('|');
+    let old = fields.next().unwrap_or("");
+    let new = fields.next().unwrap_or("");
+    let second_old = fields.next().unwrap_or("");
+    let second_new = fields.next().unwrap_or("");
+    let want = fields.next().unwrap_or("");
+    let once = changed(alloc, BASE, old, new)?;
+    let text = changed(alloc, once.as_str(), second_old, second_new)?;
+    let text = with_quotes(alloc, text.as_str())?;
+    let got = answer(alloc, text.as_bytes())?;
+    Ok((got, String::from_str(alloc, want)?))
+}
+
+#[test]
+fn each_fault_and_its_place(rt: HostRuntime) -> Result<(), Fail> {
+    let alloc = rt.alloc();
+    for line in CASES.lines() {
+        let (got, want) = answer_of_case(alloc, line)?;
+        assert_eq!(rt; got, want, "{line}");
+    }
+    let wide = with_quotes(alloc, WIDE)?;
+    let got = answer(alloc, wide.as_bytes())?;
+    assert_eq!(rt; got.as_str(), "TooManyCuboids /aggregation_groups");
+    assert_eq!(rt; answer(alloc, b"{\"name\":\"\xff\"}")?.as_str(), "NotJson");
+    assert_eq!(rt; answer(alloc, &[b'['; 200])?.as_str(), "NotJson");
+    Ok(())
+}
+
+#[test]
+fn numbers_for_names(rt: HostRuntime) -> Result<(), Fail> {
+    let alloc = rt.alloc();
+    let text = with_quotes(alloc, BASE)?;
+    let desc = match read_desc(alloc, text.as_bytes()) {
+        Ok(desc) => desc,
+        Err(_) => {
+            assert!(rt; false, "refused");
+            return Ok(());
+        }
+    };
+    assert_eq!(rt; desc.source(), text.as_bytes());
+    let parts = desc.parts();
+    assert_eq!(rt; parts.name.bytes(), b"C".as_slice());
+    assert_eq!(rt; parts.tables.len(), 2);
+    assert_eq!(rt; parts.masks.len(), 3);
+    assert_eq!(rt; parts.groups.len(), 1);
+    let wide = [(0, 0), (0, 1), (1, 1), (0, 2)];
+    assert_eq!(rt; parts.plan.wide.len(), wide.len());
+    for (got, (table, column)) in parts.plan.wide.as_slice().iter().zip(wide) {
+        assert_eq!(rt; *got, WideCol { table, column });
+    }
+    let fact = desc.form(alloc, 0)?;
+    assert_eq!(rt; fact.cols.len(), 4);
+    assert_eq!(rt;
+        fact.no_null.as_slice(),
+        [false, false, true, false].as_slice()
+    );
+    assert!(rt; fact.key.is_empty());
+    let lookup = desc.form(alloc, 1)?;
+    assert_eq!(rt; lookup.no_null.as_slice(), [false, false].as_slice());
+    assert_eq!(rt; lookup.key.as_slice(), [0].as_slice());
+    Ok(())
+}
