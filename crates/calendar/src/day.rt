@@ -3,6 +3,7 @@
 ghost use Rattle.std.specs.Prelude.{◌≡◌, ◌↔◌, ◌≤◌, ◌+◌, ◌+ℤ◌, ◌≤ℤ◌, pos, IsSome, IfSome, Some};
 ghost use Rattle.jiff.specs.Words.{epoch_day, IsYmd, IsDate as IsJiffDate};
 ghost use Rattle.calendar.specs.Dates.{IsCalendarDate, IsDate, IsDateText, day_of, day_with, day_number, last_day};
+ghost use Rattle.calendar.specs.DayTexts.{day_text};
 
 use crate::form::{byte_of_digit, is_date_form, number_at};
 use jiff::civil::Date;
@@ -103,6 +104,7 @@ impl Day {
     pub fn text(&self) -> [u8; 10]
         ensures text { IsDateText result self.now }
         ensures again { day_of result ≡ Some self.now }
+        ensures value { result ≡ day_text self.now }
     {
         let (year, month, day) = self.parts();
         [

@@ -8,3 +8,4 @@ pub mod Kept
 pub mod Flights
 pub mod Queries
 pub mod Refusals
+pub mod Growth

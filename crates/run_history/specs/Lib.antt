@@ -8,3 +8,4 @@ pub mod Histories
 pub mod Invariants
 pub mod Kept
 pub mod Examples
+pub mod Bounds

@@ -6,12 +6,14 @@
 //! histories are functions with empty bodies, in `histories`, and lemmas in `proofs/Laws.antt`, `proofs/Sound.antt` and `proofs/Kept.antt`.
 #![tactic(auto)]
 
+mod bounds;
 mod command;
 mod event;
 mod examples;
 mod histories;
 mod refused;
 
+pub use bounds::numbers_are_small;
 pub use command::{Control, Noted};
 pub use event::{Event, Outcome, QueryOut};
 pub use examples::{worked_examples, worked_merge, worked_queue};

@@ -6,3 +6,4 @@ pub mod Refusals
 pub mod Turns
 pub mod Builds
 pub mod Steers
+pub mod SoundStates

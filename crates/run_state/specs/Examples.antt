@@ -1,5 +1,5 @@
 -- Small cases on which the definitions are computed.
-use Rattle.std.specs.Prelude.{ℕ, Bool, List, [], ◌∷◌, Option, Some, None}
+use Rattle.std.specs.Prelude.{Bool, List, [], ◌∷◌}
 use Rattle.job_machine.specs.Job.{JobRecord}
 use Rattle.job_machine.specs.declared.state.JobKind.TheVariants.{Build}
 use Rattle.job_machine.specs.declared.state.JobState.{JobState}

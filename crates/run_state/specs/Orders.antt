@@ -2,6 +2,7 @@
 use Rattle.std.specs.Prelude.{◌≡◌, ◌==◌, ◌<◌, ◌≤◌, ℕ, Bool, true, false, List, [], ◌∷◌, Option, Some, None, map, length, slice_get, slice_set, unwrap_or}
 use Rattle.std.specs.List.{list_any}
 use Rattle.job_machine.specs.Job.{Act, JobRecord, after_end, ended_ok, is_claimable, is_current, is_last_step, next as next_job}
+use Rattle.job_machine.specs.declared.state.JobKind.TheVariants.{Build}
 use Rattle.job_list.specs.JobList.{has}
 use Rattle.range_list.specs.Ranges.{IsFree}
 use Rattle.run_history.specs.Cubes.{Rows}
@@ -61,6 +62,11 @@ is_under_way_at (Some entry) = is_under_way entry.job.state
 abbrev pub is_last_at : {T P : Type 0} → Option (JobEntry T P) → Bool
 is_last_at None = false
 is_last_at (Some entry) = is_last_step entry.job
+
+-- the job is a BUILD, if it is there
+abbrev pub IsBuildAt : {T P : Type 0} → Option (JobEntry T P) → Type 0
+IsBuildAt None = Unit {0}
+IsBuildAt (Some entry) = entry.job.kind ≡ Build
 
 -- no ready segment overlaps the range of a job
 abbrev pub IsFreeFor : {T P S Q : Type 0} → RunState T P S Q → Option (JobEntry T P) → Type 0

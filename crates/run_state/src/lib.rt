@@ -6,15 +6,17 @@
 //!
 //! Beside the world a state keeps that the ranges of the ready segments stand in their list, that the queue has a place for every job,
 //! that waiting queries rise by their lines, and that each of their sessions is listed (`IsOrderly`). `IsQueued`, and what a swap needs,
-//! are facts of every world that a legal history reaches, and are asked for.
+//! are facts of every world that a legal history reaches (`sound_states`), and are asked for.
 //!
 //! - `parts`: what is kept. `table`: handles of loaded tables.
 //! - `commands`: the start, loads, submissions, and commands on jobs. `verdicts`: what refuses them.
+//! - `laws`: what legal histories give the calls.
 //! - `steps`: claims and the ends of steps. `queries`: queries and their ends. `reads`: what is asked of a state.
 #![tactic(auto)]
 
 mod commands;
 mod examples;
+mod laws;
 mod parts;
 mod queries;
 mod reads;
@@ -25,6 +27,7 @@ mod verdicts;
 
 pub use commands::{load, new_state, set_line, steer, submit};
 pub use examples::worked_examples;
+pub use laws::sound_states;
 pub use parts::{
     Claim, Controlled, JobEntry, QueryInFlight, ReadySegment, RunState, Session, WaitingQuery,
 };

@@ -1,2 +1,1 @@
-pub mod DayTexts
 pub mod Writers

@@ -11,7 +11,7 @@ use Rattle.plain_answer.specs.declared.answer.OutVal.TheVariants.{Null, Whole, U
 use Rattle.range_list.specs.Ranges.{Interval}
 use Rattle.run_history.specs.declared.refused.Refused.{Refused}
 use Rattle.run_history.specs.declared.refused.Refused.TheVariants.{NotLoaded, TooManySegments, OverlapsSegment, OverlapsJob, NoSuchSegment, NotOnBounds, OneSegment, Hole, LookupsDiffer, NoSuchJob, JobEnded, WrongState}
-use Rattle.script_text.specs.Days.{day_text}
+use Rattle.calendar.specs.DayTexts.{day_text}
 use Rattle.script_text.specs.declared.block.Block.{Block}
 use Rattle.script_text.specs.declared.block.Block.TheVariants as block
 use Rattle.script_text.specs.declared.block.JobLine.{JobLine}

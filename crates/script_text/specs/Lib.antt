@@ -1,4 +1,3 @@
 pub mod Blocks
-pub mod Days
 pub mod Examples
 pub mod Writing

@@ -1,12 +1,10 @@
 // The texts of small blocks, computed from their definitions.
 
 ghost use Rattle.std.specs.Prelude.{◌≡◌, [], ◌∷◌, codes};
-ghost use Rattle.calendar.specs.Dates.{day_number};
 ghost use Rattle.job_machine.specs.declared.state.JobKind.TheVariants.{Build};
 ghost use Rattle.job_machine.specs.declared.state.JobState.TheVariants.{Error, Finished, Running};
 ghost use Rattle.run_history.specs.declared.refused.Refused.TheVariants as refusal;
 ghost use Rattle.script_text.specs.Blocks.{block_text, end_text};
-ghost use Rattle.script_text.specs.Days.{day_text};
 ghost use Rattle.script_text.specs.Examples.{four_jobs, refused, two_rows};
 ghost use Rattle.script_text.specs.declared.block.Block.TheVariants as block;
 
@@ -22,12 +20,6 @@ pub fn worked_blocks()
     ensures answer { block_text 10 two_rows ≡ codes "[10] query: 2 rows\nD1,COUNT(*),AVG(M)\n\"a,b\",1,-0.5000\n\\N,12,310.5100\n" }
     ensures out_of_memory { block_text 11 block.OutOfMemory ≡ codes "[11] query: out of memory\n" }
     ensures ends { end_text four_jobs 4 ≡ codes "end: 1 finished, 2 in error, 0 stopped, 1 discarded; 4 segments\n" }
-{}
-
-/// A block of a job, whose days are those that the calendar counts.
-pub fn worked_days()
-    ensures first { day_text (day_number 2012 1 1) ≡ codes "2012-01-01" }
-    ensures leap { day_text (day_number 2012 2 29) ≡ codes "2012-02-29" }
 {}
 
 /// Refusals.

@@ -10,19 +10,17 @@
 #![tactic(auto)]
 
 mod block;
-mod day;
 mod examples;
-mod laws;
 mod path;
 mod put;
+mod range;
 mod refusal;
 mod table;
 mod text;
 mod verb;
 
 pub use block::{Block, JobLine, SegmentLine, Tally};
-pub use examples::{worked_blocks, worked_days, worked_refusals};
-pub use laws::days_have_texts;
+pub use examples::{worked_blocks, worked_refusals};
 pub use path::PathText;
 pub use put::{put_block, put_end};
 pub use run_history::{Control, Refused};

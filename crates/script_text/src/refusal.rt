@@ -3,7 +3,7 @@
 ghost use Rattle.std.specs.Prelude.{◌≡◌, IfOk};
 ghost use Rattle.script_text.specs.Blocks.{refusal_text};
 
-use crate::day::{day_text, range_text};
+use crate::range::range_text;
 use crate::text::{with_number, with_text};
 use run_history::Refused;
 use std::alloc::{AllocError, Global};
@@ -23,7 +23,7 @@ pub fn refusal_text(alloc: Global, refused: &Refused) -> Result<Vec<u8>, AllocEr
         Refused::NoSuchSegment => Vec::from_slice(alloc, b"NoSuchSegment"),
         Refused::NotOnBounds => Vec::from_slice(alloc, b"NotOnBounds"),
         Refused::OneSegment => Vec::from_slice(alloc, b"OneSegment"),
-        Refused::Hole(day) => with_text(alloc, b"Hole ", &day_text(*day)),
+        Refused::Hole(day) => with_text(alloc, b"Hole ", &day.text()),
         Refused::LookupsDiffer(table) => with_text(alloc, b"LookupsDiffer ", table.bytes()),
         Refused::NoSuchJob(job) => with_number(alloc, b"NoSuchJob ", u64::from(*job)),
         Refused::JobEnded(state) => with_text(alloc, b"JobEnded ", state.as_str().as_bytes()),

@@ -5,7 +5,6 @@ ghost use Rattle.script_text.specs.Blocks.{csv_line, job_fields, jobs_header, ou
 ghost use Rattle.script_text.specs.Writing.{HasWritten};
 
 use crate::block::{JobLine, SegmentLine};
-use crate::day::day_text;
 use csv::{Writer, WriterBuilder};
 use cube_val::{NameText, decimal_text};
 use plain_answer::{AnswerRow, AnswerTable, OutVal};
@@ -47,8 +46,8 @@ fn put_job(writer: &mut Writer<Vec<u8>>, alloc: Global, job: &JobLine) -> Result
     let id = job.id.to_string(alloc)?;
     let done = job.done.to_string(alloc)?;
     let steps = job.steps.to_string(alloc)?;
-    let start = day_text(job.range.start());
-    let end = day_text(job.range.end());
+    let start = job.range.start().text();
+    let end = job.range.end().text();
     put_line(
         writer,
         &[
@@ -96,8 +95,8 @@ fn put_segment(
 {
     let job = segment.job.to_string(alloc)?;
     let cuboids = segment.cuboids.to_string(alloc)?;
-    let start = day_text(segment.range.start());
-    let end = day_text(segment.range.end());
+    let start = segment.range.start().text();
+    let end = segment.range.end().text();
     put_line(
         writer,
         &[

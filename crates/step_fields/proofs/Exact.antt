@@ -21,11 +21,11 @@ use Rattle.cube_val.specs.Texts.{IsText}
 use Rattle.cube_val.specs.Values.{FitsType, IsValue}
 use Rattle.range_list.specs.Ranges.{Interval}
 use Rattle.step_fields.specs.declared.column.Column.{Column}
-use Rattle.step_fields.specs.Days.{day_text}
+use Rattle.calendar.specs.DayTexts.{day_text}
 use Rattle.step_fields.specs.Fits.{FitsColumn, FitsRow, FitsRows, IsDay, IsDayRange}
 use Rattle.step_fields.specs.Reading.{date_at, day_at, may_stand, range_at, range_from, row_at, rows_at, short_at, tagged_val_at, text_at, typed_at, val_at}
 use Rattle.step_fields.specs.Spelling.{range_text, row_text, rows_text, short_text, val_text}
-use Rattle.step_fields.proofs.DayFacts.{only_text_of_day, text_of_day}
+use Rattle.calendar.proofs.DayFacts.{only_text_of_day, text_of_day}
 
 -- ---- values
 

@@ -1,3 +1,2 @@
-pub mod DayFacts
 pub mod Exact
 pub mod TextFacts

@@ -1,10 +1,9 @@
 -- What holds of all these fields.
 use Rattle.std.specs.Prelude.{◌≡◌, ◌<◌, ◌^◌, ℕ, List}
 use Rattle.byte_frame.specs.Exact.{Exact}
-use Rattle.calendar.specs.Dates.{IsDateText}
 use Rattle.cube_val.specs.declared.val.Val.{Val}
 use Rattle.step_fields.specs.declared.column.Column.{Column}
-use Rattle.step_fields.specs.Days.{day_text}
+use Rattle.calendar.specs.DayTexts.{day_text}
 use Rattle.step_fields.specs.Fits.{FitsColumn, FitsRow, FitsRows, IsDay, IsDayRange}
 use Rattle.step_fields.specs.Reading.{day_at, range_at, row_at, rows_at, val_at}
 use Rattle.step_fields.specs.Spelling.{range_text, row_text, rows_text, val_text}
@@ -16,8 +15,3 @@ pub record FieldsAreExact : Type 0 where
   pub rows : (columns : List Column) (limit : ℕ) → limit < 2 ^ 32 → Exact rows_text (FitsRows columns limit) (rows_at columns limit)
   pub day : Exact day_text IsDay day_at
   pub range : Exact range_text IsDayRange range_at
-
--- the text of a day is its ten bytes in the calendar, and no other bytes are
-pub record DaysHaveTexts : Type 0 where
-  pub text : (day : ℕ) → IsDay day → IsDateText (day_text day) day
-  pub only : (bytes : List ℕ) (day : ℕ) → IsDateText bytes day → bytes ≡ day_text day

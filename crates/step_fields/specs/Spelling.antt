@@ -6,7 +6,7 @@ use Rattle.byte_frame.specs.Spelling.{list_text, signed_text}
 use Rattle.cube_val.specs.declared.val.Val.{Val}
 use Rattle.cube_val.specs.declared.val.Val.TheVariants.{Null, Int, Text}
 use Rattle.range_list.specs.Ranges.{Interval}
-use Rattle.step_fields.specs.Days.{day_text}
+use Rattle.calendar.specs.DayTexts.{day_text}
 
 -- a length of one byte, and the bytes
 abbrev pub short_text : List ℕ → List ℕ

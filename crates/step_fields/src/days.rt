@@ -1,7 +1,7 @@
 // Days and ranges.
 
 ghost use Rattle.std.specs.Prelude.{◌≡◌, ◌++◌, OnOk};
-ghost use Rattle.step_fields.specs.Days.{day_text};
+ghost use Rattle.calendar.specs.DayTexts.{day_text};
 ghost use Rattle.step_fields.specs.Reading.{Finds, day_at, range_at};
 ghost use Rattle.step_fields.specs.Spelling.{range_text};
 

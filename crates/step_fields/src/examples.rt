@@ -3,7 +3,6 @@
 ghost use Rattle.std.specs.Prelude.{◌≡◌, ◌++◌, ◌∷◌, [], Some, None, codes, pos, negsuc, false, true};
 ghost use Rattle.cube_val.specs.declared.val.ColType.TheVariants as ty;
 ghost use Rattle.cube_val.specs.declared.val.Val.TheVariants.{Null, Int, Text};
-ghost use Rattle.step_fields.specs.Days.{day_text};
 ghost use Rattle.step_fields.specs.Reading.{range_at, val_at};
 ghost use Rattle.step_fields.specs.Spelling.{row_text, rows_text, range_text, val_text};
 
@@ -14,8 +13,6 @@ pub fn worked_examples()
     ensures null { val_at (record { ty = ty.Date; no_null = false }) (0 ∷ 9 ∷ []) ≡ Some (Null, 9 ∷ []) }
     ensures no_null { val_at (record { ty = ty.Date; no_null = true }) (0 ∷ 9 ∷ []) ≡ None }
     ensures other_type { val_at (record { ty = ty.Int; no_null = false }) (val_text (Text (codes "a"))) ≡ None }
-    ensures leap_day { day_text 734_927 ≡ codes "2012-02-29" }
-    ensures last_day { day_text 3_652_424 ≡ codes "9999-12-31" }
     ensures range { range_text (record { start = 734_868; end = 734_899 }) ≡ codes "2012-01-012012-02-01" }
     ensures no_range { range_at (codes "2012-01-012012-01-01") ≡ None }
 {}

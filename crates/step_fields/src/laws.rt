@@ -1,14 +1,9 @@
 // What holds of all these fields.
 
-ghost use Rattle.step_fields.specs.Laws.{DaysHaveTexts, FieldsAreExact};
+ghost use Rattle.step_fields.specs.Laws.{FieldsAreExact};
 
 /// Each field is read exactly: what fits is read again from what it is written as, whatever follows, and what is read
 /// was so written and fits.
 pub fn fields_are_exact()
     ensures { FieldsAreExact }
-{}
-
-/// The bytes of a day are its text in the calendar.
-pub fn days_have_texts()
-    ensures { DaysHaveTexts }
 {}

@@ -29,7 +29,7 @@ mod values;
 pub use column::Column;
 pub use days::{put_day, put_range, take_day, take_range};
 pub use examples::worked_examples;
-pub use laws::{days_have_texts, fields_are_exact};
+pub use laws::fields_are_exact;
 pub use rows::{RowOf, put_row, put_rows, read_rows};
 pub use values::put_val;
 

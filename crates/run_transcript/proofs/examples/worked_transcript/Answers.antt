@@ -1,15 +1,12 @@
-use Rattle.std.proofs.Common.{◌≡◌, ◌++◌, ◌∷◌, [], List, ℕ, lit≤, refl, sym, ap, ◌∙◌, append-nil}
+use Rattle.std.proofs.Common.{◌≡◌, ◌++◌, ◌∷◌, [], List, ℕ, refl, ap, ◌∙◌, append-nil}
 use Rattle.std.specs.Prelude.{codes}
 use Rattle.std.specs.Fmt.{digits}
 use Rattle.std.proofs.lemmas.List.Concat.{flat_map-append}
-use Rattle.calendar.specs.Dates.{date_text, day_number}
 use Rattle.csv.specs.Writing.{escaped, fields_text, is_blank}
-use Rattle.jiff_core.specs.Calendar.{day_count, days_of_months, days_of_years}
 use Rattle.job_machine.specs.declared.state.JobKind.TheVariants.{Build}
 use Rattle.job_machine.specs.declared.state.JobState.TheVariants.{Error, Finished, Pending}
-use Rattle.script_text.proofs.DayTexts.{text_of_day}
 use Rattle.script_text.specs.Blocks.{block_text}
-use Rattle.script_text.specs.Days.{day_text}
+use Rattle.calendar.specs.DayTexts.{day_text, month_of, year_of}
 use Rattle.script_text.specs.declared.block.Block.TheVariants as block
 use Rattle.run_transcript.specs.Entries.{told, told_text}
 use Rattle.run_transcript.specs.Examples.{answer, before_answer, first_blocks, history, inputs, january, served, text_of}
@@ -19,17 +16,13 @@ use Rattle.run_transcript.specs.Transcripts.{end_if, entries_of}
 use Rattle.run_transcript.proofs.examples.worked_transcript.Goals as goal
 
 -- the days of the range
-starts : day_text 734868 ≡ date_text 2012 1 1
-unfolding day_number day_count days_of_years days_of_months
-starts =
-    sym (text_of_day (date_text 2012 1 1) 734868
-    (record { year = 2012; month = 1; day = 1; in_calendar = (lit≤ tt, (lit≤ tt, lit≤ tt), (lit≤ tt, lit≤ tt)); spelled = refl; counted = refl }))
+starts : day_text 734868 ≡ codes "2012-01-01"
+unfolding day_text year_of month_of
+starts = refl
 
-ends : day_text 734899 ≡ date_text 2012 2 1
-unfolding day_number day_count days_of_years days_of_months
-ends =
-    sym (text_of_day (date_text 2012 2 1) 734899
-    (record { year = 2012; month = 2; day = 1; in_calendar = (lit≤ tt, (lit≤ tt, lit≤ tt), (lit≤ tt, lit≤ tt)); spelled = refl; counted = refl }))
+ends : day_text 734899 ≡ codes "2012-02-01"
+unfolding day_text year_of month_of
+ends = refl
 
 job_text : block_text 3 (block.Job 1 Build january) ≡ codes "[3] job 1: BUILD 2012-01-01 2012-02-01\n"
 unfolding digits

@@ -4,10 +4,10 @@ pub returns : goal.returns
 returns c =
     rw (
       c.as_slice.ensures,
-      c.day_text-start.ensures,
+      c.text-start.ensures.value,
       c.start.ensures.value,
       c.as_slice-2.ensures,
-      c.day_text-end.ensures,
+      c.text-end.ensures.value,
       c.end.ensures.value,
       c.as_bytes.ensures.value,
       c.in_ok-job.ensures.ok,

@@ -1,7 +1,7 @@
 use Rattle.std.proofs.Common.{refl}
 use Rattle.jiff_core.specs.Calendar.{day_count, days_of_years, days_of_months}
 use Rattle.calendar.specs.Dates.{day_of, day_with, day_number}
-use Rattle.step_fields.specs.Days.{day_text, month_of, year_of}
+use Rattle.calendar.specs.DayTexts.{day_text, month_of, year_of}
 use Rattle.step_fields.specs.Reading.{typed_at}
 use Rattle.step_fields.proofs.examples.worked_examples.Goals as goal
 
@@ -16,14 +16,6 @@ returns-clause-no_null c = refl
 pub returns-clause-other_type : goal.returns-clause-other_type
 unfolding typed_at
 returns-clause-other_type c = refl
-
-pub returns-clause-leap_day : goal.returns-clause-leap_day
-unfolding day_text month_of year_of
-returns-clause-leap_day c = refl
-
-pub returns-clause-last_day : goal.returns-clause-last_day
-unfolding day_text month_of year_of
-returns-clause-last_day c = refl
 
 pub returns-clause-range : goal.returns-clause-range
 unfolding day_text month_of year_of

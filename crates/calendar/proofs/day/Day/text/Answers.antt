@@ -1,4 +1,5 @@
 use Rattle.std.proofs.Common.{rules}
+use Rattle.calendar.proofs.DayFacts.{only_text_of_day}
 use Rattle.calendar.proofs.Texts.{text_read}
 use Rattle.calendar.proofs.day.Day.text.Goals as goal
 
@@ -7,3 +8,6 @@ returns-clause-text c = record { year = c.parts-year.result.0; month = c.parts-y
 
 pub returns-clause-again : goal.returns-clause-again
 returns-clause-again c = text_read _ _ (returns-clause-text c)
+
+pub returns-clause-value : goal.returns-clause-value
+returns-clause-value c = only_text_of_day _ _ (returns-clause-text c)

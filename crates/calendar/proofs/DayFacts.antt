@@ -8,8 +8,7 @@ use Rattle.jiff_core.proofs.SignedLemmas.{signed_arith}
 use Rattle.calendar.specs.Dates.{IsDateText, day_number, last_day}
 use Rattle.calendar.proofs.Dates.{first_is}
 use Rattle.calendar.proofs.Texts.{one_text, text_bound}
-use Rattle.step_fields.specs.Days.{Place, day_text, month_from, month_of, year_from, year_of}
-use Rattle.step_fields.specs.Fits.{IsDay}
+use Rattle.calendar.specs.DayTexts.{Place, day_text, month_from, month_of, year_from, year_of}
 
 -- the year of a day, which is counted from the first day of jiff's calendar
 record InYear (count : ℕ) (p : Place) : Type 0 where
@@ -64,7 +63,7 @@ month_found (suc more) year month days low last small =
       by false e later = later (ltb-false _ _ e)
 
 -- the date of a day
-pub text_of_day : (day : ℕ) → IsDay day → IsDateText (day_text day) day
+pub text_of_day : (day : ℕ) → day ≤ last_day → IsDateText (day_text day) day
 unfolding day_text year_of month_of day_number
 text_of_day day small =
     let y = year_found 9999 0 day refl (omega (arith, first_is)) in
