@@ -6,7 +6,7 @@ ghost use Rattle.std.specs.List.{concat};
 ghost use Rattle.script_text.specs.Blocks.{block_text, end_text, lines_after, said, tally_text};
 
 use crate::block::{Block, Tally};
-use crate::day::range_text;
+use crate::range::range_text;
 use crate::refusal::refusal_text;
 use crate::table::{answer_table, jobs_table, segments_table};
 use crate::text::{joined, with_number, with_text};
