@@ -1,7 +1,8 @@
 // A hand that starts programs.
 
 ghost use denote.Param.Send.{IsSync};
-ghost use Rattle.std.specs.Prelude.{◌≡◌, ◌<◌, ◌^◌, None};
+ghost use Rattle.std.specs.Prelude.{◌≡◌, ◌≢◌, ◌≤◌, ◌<◌, ◌^◌, IfErr, None, OnErr, OnOk, string_bytes};
+ghost use Rattle.outside.specs.Counts.{Rose, raised};
 
 use crate::child::run_step;
 use crate::os_files::OsFiles;
@@ -10,6 +11,7 @@ use outside::{FileFault, Files, Hand, HandFault, Honest, StepWork};
 use std::alloc::Global;
 use std::fs;
 use std::io::ErrorKind;
+use std::marker::Model;
 use std::process::Processes;
 use std::sync::Wait;
 use std::thread::Threads;
@@ -22,13 +24,24 @@ pub struct ProcHand<P> {
     program: String,
     runs: u64,
     faults: u64,
-    ghost runs_fit: { runs < 2 ^ 64 },
-    ghost faults_fit: { faults < 2 ^ 64 },
+}
+
+impl<P> Model for ProcHand<P> {
+    ghost use Rattle.std.specs.Prelude.{◌<◌, ◌^◌, string_bytes};
+    ghost use Rattle.os_objects.specs.Hands.{ProcState};
+
+    ghost Value = { ProcState };
+
+    ghost view = { λ h. record { program = string_bytes h.program; runs = h.runs; faults = h.faults } };
+
+    ghost invariant = { λ h. (h.runs < 2 ^ 64) × (h.faults < 2 ^ 64) };
 }
 
 impl<P> ProcHand<P> {
     /// A hand without a run, which starts the program at this path.
-    pub fn new(host: P, program: String) -> ProcHand<P> {
+    pub fn new(host: P, program: String) -> ProcHand<P>
+        ensures { result ≡ record { program = string_bytes program; runs = 0; faults = 0 } }
+    {
         ProcHand {
             host,
             program,
@@ -112,7 +125,19 @@ impl<K: StepWork, P: Processes + std::rt::Files> Hand<K> for ProcHand<P> {
         job: u32,
         attempt: u32,
         task: &[u8],
-    ) -> Result<Vec<u8>, HandFault> {
+    ) -> Result<Vec<u8>, HandFault>
+        requires { IsSync R.row }
+        ensures counted { self.new.runs ≡ raised self.old.runs }
+        ensures ran { Rose self.old.runs self.new.runs }
+
+        // Each Err counts, want of memory too.
+        ensures failed_counted { OnErr result (self.new.faults ≡ raised self.old.faults) }
+        ensures ok_not_counted { OnOk result (self.new.faults ≡ self.old.faults) }
+        ensures failed { IfErr result (λ fault. fault ≢ HandFault.Memory → Rose self.old.faults self.new.faults) }
+        ensures faults { self.old.faults ≤ self.new.faults }
+        ensures bounded { (self.new.runs < 2 ^ 64) × (self.new.faults < 2 ^ 64) }
+        ensures program { self.new.program ≡ self.old.program }
+    {
         self.runs = self.runs.saturating_add(1);
         let answer = attempt_step(&self.host, alloc, self.program.as_str(), job, attempt, task);
         if answer.is_err() {
