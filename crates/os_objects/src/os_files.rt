@@ -1,7 +1,7 @@
 // The files of the system.
 
 ghost use Rattle.std.specs.Prelude.{◌≡◌, ◌≤◌, ◌<◌, ◌^◌, ◌-◌, ℕ, None, IfOk, IsErrOf, length};
-ghost use Rattle.cubes.specs.Streams.{IsAllOf};
+ghost use Rattle.os_objects.specs.Streams.{IsAllOf};
 
 use outside::{FileFault, Files};
 use std::alloc::Global;
