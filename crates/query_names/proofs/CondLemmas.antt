@@ -1,5 +1,5 @@
 -- What the terms and the pairs of a condition give, from those of its parts.
-use Rattle.std.proofs.Common.{◌≡◌, ℕ, List, [], ◌∷◌, ◌++◌, map, Option, sym, ap, ◌∙◌, refl}
+use Rattle.std.proofs.Common.{◌≡◌, ℕ, List, ◌++◌, map, Option, sym, ap, ◌∙◌, refl}
 use Rattle.std.specs.List.{flat_map}
 use Rattle.std.proofs.lemmas.List.Folds.{flat_map-map}
 use Rattle.sql_reader.specs.declared.tree.SqlCond.{SqlCond, fold-SqlCond, fold-roll-SqlCond}

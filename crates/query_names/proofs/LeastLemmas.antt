@@ -3,7 +3,6 @@ use Rattle.std.proofs.Common.{◌≡◌, ℕ, ◌<◌, ◌+◌, List, [], ◌∷
 use Rattle.std.specs.List.{flat_map}
 use Rattle.std.proofs.lemmas.List.{append-nil, take_more}
 use Rattle.std.proofs.lemmas.List.Concat.{flat_map-append}
-use Rattle.std.specs.Prelude.{min}
 use Rattle.query_names.specs.Least.{lesser, least}
 
 lesser_assoc : (p : ℕ) (a b : Option ℕ) → lesser (Some p) (lesser a b) ≡ lesser (lesser (Some p) a) b

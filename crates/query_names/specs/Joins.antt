@@ -1,5 +1,5 @@
 -- Joins, and those of the descriptor.
-use Rattle.std.specs.Prelude.{ℕ, zero, suc, List, [], ◌∷◌, Option, Some, None, Bool, true, false, not, ◌&&◌, ◌||◌, ◌==◌, nat_le, bytes_eq, slice_get, zip, count_by}
+use Rattle.std.specs.Prelude.{ℕ, zero, suc, List, [], ◌∷◌, Option, Some, None, Bool, false, not, ◌&&◌, ◌||◌, ◌==◌, nat_le, bytes_eq, slice_get, zip, count_by}
 use Rattle.std.specs.List.{flat_map, list_all, list_any}
 use Rattle.cube_val.specs.declared.form.WideCol.{WideCol}
 use Rattle.cube_val.specs.declared.form.JoinStep.{JoinStep}

@@ -1,5 +1,5 @@
 -- What the names of a query stand for in a cube.
-use Rattle.std.specs.Prelude.{ℕ, List, map, Option, Some, None, is_some, Bool, ◌&&◌, ◌==◌, ◌+◌, if◌then◌else◌, nat_lt, bytes_eq, length, slice_get}
+use Rattle.std.specs.Prelude.{ℕ, List, Option, Some, None, is_some, Bool, ◌&&◌, ◌==◌, ◌+◌, if◌then◌else◌, nat_lt, bytes_eq, length, slice_get}
 use Rattle.std.specs.List.{find, position}
 use Rattle.std.specs.Option.{option_or}
 use Rattle.cube_val.specs.declared.val.ColType.{ColType}

@@ -1,4 +1,3 @@
-use Rattle.std.proofs.Common.{◌++◌}
 use Rattle.std.specs.List.{flat_map}
 use Rattle.query_names.specs.Parts.{of_cond, of_group_terms, of_join, of_term}
 use Rattle.query_names.proofs.LeastLemmas.{least_of_four}

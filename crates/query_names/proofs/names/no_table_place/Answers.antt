@@ -1,4 +1,3 @@
-use Rattle.std.proofs.Common.{◌++◌}
 use Rattle.std.specs.List.{flat_map}
 use Rattle.query_names.specs.Parts.{of_columns}
 use Rattle.query_names.specs.Names.{from_no_table, join_no_table, column_no_table}

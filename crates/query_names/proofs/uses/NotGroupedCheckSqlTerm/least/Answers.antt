@@ -1,4 +1,3 @@
-use Rattle.std.proofs.Common.{◌≡◌, refl, ap, ◌∙◌}
 use Rattle.query_names.proofs.uses.NotGroupedCheckSqlTerm.least.Goals as goal
 
 pub returns-in-Col : goal.returns-in-Col
