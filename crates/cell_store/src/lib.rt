@@ -9,14 +9,16 @@
 //! row is shown by `CellTable::row` alone, and each call of it is one step of a `Steps`; so a bound on the steps that a
 //! call took is a bound on the rows that it read.
 //!
-//! The modules: `cell`: a cell; `table`: a table of rows; `steps`: the counter of rows that were read.
+//! The modules: `cell`: a cell; `table`: a table of rows; `steps`: the counter of rows that were read; `examples`: the definitions on a few cells.
 #![tactic(auto)]
 
 mod cell;
+mod examples;
 mod steps;
 mod table;
 
 pub use cell::Cell;
+pub use examples::worked_examples;
 pub use steps::Steps;
 pub use table::CellTable;
 
