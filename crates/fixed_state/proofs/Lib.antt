@@ -1,0 +1,6 @@
+pub mod Pairs
+pub mod Jobs
+pub mod TaskFacts
+pub mod Events
+pub mod EndFacts
+pub mod ReadyFacts
