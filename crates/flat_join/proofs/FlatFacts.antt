@@ -1,5 +1,5 @@
 -- Facts about the flat rows of a cube.
-use Rattle.std.proofs.Common.{◌≡◌, ◌<◌, ◌+◌, ℕ, suc, List, [], ◌∷◌, ◌++◌, length, get_or, take, drop, map, Option, Some, refl, sym, ap, subst, ◌∙◌, arith}
+use Rattle.std.proofs.Common.{zero, ◌≡◌, ◌<◌, ◌+◌, ℕ, suc, List, [], ◌∷◌, ◌++◌, length, get_or, take, drop, map, Option, Some, refl, sym, ap, subst, ◌∙◌, arith}
 use Rattle.std.specs.Prelude.{All, slice_get}
 use Rattle.std.specs.List.{drop-map}
 use Rattle.std.proofs.lemmas.List.{map-append, take-map}
@@ -15,6 +15,7 @@ use Rattle.cube_desc.specs.Forms.{cols_of, form_of, primary_of}
 use Rattle.cube_desc.specs.Sound.{IsSound}
 use Rattle.cube_desc.specs.declared.desc.TableDesc.{TableDesc}
 use Rattle.joined_rows.proofs.FitFacts.{fitting_length}
+use Rattle.joined_rows.specs.Fits.{IsTable}
 use Rattle.joined_rows.specs.Joins.{fact_of, joined_by, lookups_of, matches_of, wide_row, wide_value}
 use Rattle.table_reader.specs.Keys.{HasDistinctKeys}
 use Rattle.flat_join.proofs.ServeFacts.{found_in-is}
@@ -100,3 +101,12 @@ lookup_ready c joins tables i n j desc rows primary width e s t same h ej ed er 
     let is = lookup_is c tables i j desc s t small at there in
     subst (λ (x : List (List Val)). IsLookup x primary width) rows_at
     (subst (λ (ps : List ℕ). IsLookup (get_or tables (suc i) []) ps width) (sym ep) (subst (λ (w : ℕ). IsLookup (get_or tables (suc i) []) j.primary w) (sym ew) is))
+
+-- two tables of their forms are those of a cube of two tables
+pub two_tables : (c : Cube) (a b : List (List Val)) → length c.tables ≡ 2 → IsTable (form_of c 0) a → IsTable (form_of c 1) b → AreTablesOf c (a ∷ b ∷ [])
+two_tables c a b e ta tb = record { count = sym e; each = each }
+  where
+    each : (t : ℕ) → t < 2 → IsTable (form_of c t) (get_or (a ∷ b ∷ []) t [])
+    each zero h = ta
+    each (suc zero) h = tb
+    each (suc (suc t)) h = absurd (omega arith)

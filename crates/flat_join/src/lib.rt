@@ -14,3 +14,6 @@ mod snaps;
 mod wide;
 
 pub use flat::join;
+
+#[cfg(test)]
+mod tests;
