@@ -5,14 +5,16 @@
 //! looks through all rows of a lookup for each fact row, and the code finds the same row by sorted keys. That the tables fit the
 //! cube's forms is asked of the caller, who has it of every table that was read.
 //!
-//! - `flat`: the top call. `snaps`: a snapshot of each lookup. `partner`: what one fact row matches. `wide`: the values of a joined row.
+//! - `examples`: answers over joined rows, from the definitions. `flat`: the top call. `snaps`: a snapshot of each lookup. `partner`: what one fact row matches. `wide`: the values of a joined row.
 #![tactic(auto)]
 
+mod examples;
 mod flat;
 mod partner;
 mod snaps;
 mod wide;
 
+pub use examples::worked_examples;
 pub use flat::join;
 
 #[cfg(test)]
