@@ -20,7 +20,7 @@ pub mod status;
 mod words;
 
 pub use examples::worked_examples;
-pub use plain::run_plain;
+pub use plain::{refuse, refuse_path, run_plain};
 
 #[cfg(test)]
 mod tests;

@@ -85,8 +85,8 @@ fn finish<S: Sink>(sink: &mut S, text: &[u8]) -> u8
     }
 }
 
-// Writes a fault line, and says the status.
-fn refuse<S: Sink>(sink: &mut S, line: &[u8], status: u8) -> u8
+/// Writes a fault line, and says the status: this one, also where the write failed, or that of want of memory, and then nothing was written.
+pub fn refuse<S: Sink>(sink: &mut S, line: &[u8], status: u8) -> u8
     requires { status ≢ MEMORY }
     ensures status { (result ≡ status) ⊎ (result ≡ MEMORY) }
     ensures line { result ≡ status → Appends (S.faults sink.old) (S.faults sink.new) (S.written sink.old) (S.written sink.new) line.now }
@@ -99,8 +99,8 @@ fn refuse<S: Sink>(sink: &mut S, line: &[u8], status: u8) -> u8
     }
 }
 
-// Writes a fault line with a path, and says the status.
-fn refuse_path<S: Sink>(alloc: Global, sink: &mut S, kind: &str, path: &str, status: u8) -> u8
+/// Writes a fault line with a path, and says the status, as [`refuse`] does.
+pub fn refuse_path<S: Sink>(alloc: Global, sink: &mut S, kind: &str, path: &str, status: u8) -> u8
     requires { status ≢ MEMORY }
     ensures status { (result ≡ status) ⊎ (result ≡ MEMORY) }
     ensures line { result ≡ status → Appends (S.faults sink.old) (S.faults sink.new) (S.written sink.old) (S.written sink.new) (codes "fault: " ++ kind.now ++ 32 ∷ path.now ++ 10 ∷ []) }
