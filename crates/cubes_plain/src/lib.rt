@@ -21,6 +21,7 @@ mod words;
 
 pub use examples::worked_examples;
 pub use plain::{refuse, refuse_path, run_plain};
+pub use rows::kind_text;
 
 #[cfg(test)]
 mod tests;

@@ -2,15 +2,14 @@
 
 ghost use Rattle.std.specs.Prelude.{◌≡◌, ◌⊎◌};
 ghost use Rattle.cubes_plain.specs.Outputs.{Appends};
-ghost use Rattle.cubes_plain.specs.Tables.{kind_text};
 ghost use Rattle.run_refusal.specs.Lines.{Refuses, bad_script_line, bad_table_line, column_text};
 
 use cubes_plain::status::{BAD_TABLE, MEMORY, READ_FAULT, TOO_LARGE};
-use cubes_plain::{refuse, refuse_path};
+use cubes_plain::{kind_text, refuse, refuse_path};
 use outside::Sink;
 use run_inputs::{InputFault, InputRefusal};
 use std::alloc::Global;
-use table_reader::{TableFault, TableKind};
+use table_reader::TableFault;
 
 /// The status of a run whose first file is no script.
 pub const BAD_SCRIPT: u8 = 6;
@@ -25,22 +24,6 @@ fn column_text(place: Option<usize>) -> &'static str
         Some(1) => "D1",
         Some(2) => "D2",
         Some(_) => "M",
-    }
-}
-
-// The name of a kind in a fault line.
-fn kind_text(kind: TableKind) -> &'static str
-    ensures { result.now ≡ kind_text kind }
-{
-    match kind {
-        TableKind::NoHeader => "NoHeader",
-        TableKind::MissingColumn => "MissingColumn",
-        TableKind::RepeatedColumn => "RepeatedColumn",
-        TableKind::FieldCount => "FieldCount",
-        TableKind::BadValue => "BadValue",
-        TableKind::NullMeasure => "NullMeasure",
-        TableKind::DuplicateKey => "DuplicateKey",
-        TableKind::TooManyRows => "TooManyRows",
     }
 }
 
