@@ -22,3 +22,6 @@ mod titles;
 pub use binding::bind;
 pub use bound_query::{BindRefusal, Bound};
 pub use query_names::{BindFault, BindKind};
+
+#[cfg(test)]
+mod tests;
