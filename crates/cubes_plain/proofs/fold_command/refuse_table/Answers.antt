@@ -3,7 +3,7 @@ use Rattle.std.specs.Prelude.{codes}
 use Rattle.std.specs.Fmt.{decimal}
 use Rattle.std.specs.String.{string_bytes}
 use Rattle.cubes_plain.specs.Outputs.{Appends, bad_table_line}
-use Rattle.cubes_plain.proofs.plain.refuse_table.Goals as goal
+use Rattle.cubes_plain.proofs.fold_command.refuse_table.Goals as goal
 
 pub returns-in-Ok-clause-line : goal.returns-in-Ok-clause-line
 returns-in-Ok-clause-line g c same =

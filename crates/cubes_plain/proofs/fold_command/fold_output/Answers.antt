@@ -1,5 +1,5 @@
 use Rattle.cubes_plain.proofs.FileFacts.{faulty_at}
-use Rattle.cubes_plain.proofs.plain.fold_output.Goals as goal
+use Rattle.cubes_plain.proofs.fold_command.fold_output.Goals as goal
 
 pub returns-clause-bad : goal.returns-clause-bad
 returns-clause-bad g c f same =
