@@ -236,15 +236,22 @@ module _ {T P S Q : Type 0} (s : RunState T P S Q) where
 abbrev pub place_at : Interval → ℕ → Place
 place_at range job = record { range = range; job = job }
 
-pub finished_ready : {T P S Q : Type 0} (rows : T → Rows) (w : World Q) (s : RunState T P S Q) (segment : ReadySegment S) (place : ℕ) (ranges : List Interval) (new : List (ReadySegment S)) (made : Segment)
+-- the next set is the set with the new segment at the place of its range
+pub finished_set : {T P S Q : Type 0} (rows : T → Rows) (w : World Q) (s : RunState T P S Q) (segment : ReadySegment S) (place : ℕ) (ranges : List Interval) (made : Segment)
     → IsStateOf rows w s → s.ranges ≡ map (λ (x : ReadySegment S). x.range) s.segments.items → place_of made ≡ place_kept segment → place ≤ length s.segments.items
-    → ranges ≡ insert s.ranges place segment.range → IsApart ranges → new ≡ insert s.segments.items place segment → map place_of (swapped made w.ready) ≡ map place_kept new
-finished_ready rows w s segment place ranges new made i o h le e apart n =
+    → ranges ≡ insert s.ranges place segment.range → IsApart ranges → swapped made w.ready ≡ insert w.ready place made
+finished_set rows w s segment place ranges made i o h le e apart =
     let range : made.range ≡ segment.range = ap (λ (p : Place). p.range) h in
     let within : place ≤ length w.ready = omega (arith, ready_count rows w s i) in
     let stays : IsApart (insert (ranges_of w.ready) place made.range) =
     subst IsApart (e ∙ (ap (λ (l : List Interval). insert l place segment.range) (o ∙ sym (ready_ranges rows w s i)) ∙ ap (λ (r : Interval). insert (ranges_of w.ready) place r) (sym range))) apart in
-    ap (map place_of) (swapped_is w.ready place made within stays)
+    swapped_is w.ready place made within stays
+
+pub finished_ready : {T P S Q : Type 0} (rows : T → Rows) (w : World Q) (s : RunState T P S Q) (segment : ReadySegment S) (place : ℕ) (ranges : List Interval) (new : List (ReadySegment S)) (made : Segment)
+    → IsStateOf rows w s → s.ranges ≡ map (λ (x : ReadySegment S). x.range) s.segments.items → place_of made ≡ place_kept segment → place ≤ length s.segments.items
+    → ranges ≡ insert s.ranges place segment.range → IsApart ranges → new ≡ insert s.segments.items place segment → map place_of (swapped made w.ready) ≡ map place_kept new
+finished_ready rows w s segment place ranges new made i o h le e apart n =
+    ap (map place_of) (finished_set rows w s segment place ranges made i o h le e apart)
     ∙ (map_insert place_of w.ready place made
     ∙ (ap (λ (l : List Place). insert l place (place_of made)) i.ready
     ∙ (ap (λ (p : Place). insert (map place_kept s.segments.items) place p) h

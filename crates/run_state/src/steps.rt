@@ -5,7 +5,7 @@ ghost use Rattle.job_machine.specs.Job.{after_end, ended_failed, is_claimable};
 ghost use Rattle.range_list.specs.Ranges.{IsApart, IsFree};
 ghost use Rattle.run_history.specs.Histories.{IsNextAttempt};
 ghost use Rattle.run_history.specs.Steps.{claimed, step_ended, without_claim};
-ghost use Rattle.run_history.specs.World.{World, job_of};
+ghost use Rattle.run_history.specs.World.{Submitted, World, job_of, origin_of};
 ghost use Rattle.run_history.specs.declared.event.Outcome.{Outcome};
 ghost use Rattle.run_history.specs.declared.event.Outcome.TheVariants.{Done};
 ghost use Rattle.run_state.specs.Answers.{is_failure};
@@ -258,6 +258,7 @@ pub fn end_finished<T: TableHandle, P: Drop, S: Drop, Q: Drop>(
     ensures state { OnOk result ((w : World Q) → IsStateOf T.rows w state.old → IsStateOf T.rows (step_ended (record w { steps = without_claim job attempt w.steps }) job attempt Done (job_of w job)) state.new) }
     ensures products { OnOk result (products_of state.new ≡ slice_set (products_of state.old) (job - 1) []) }
     ensures segments { IfOk result (λ place. data_of state.new ≡ insert (data_of state.old) place sealed) }
+    ensures ready { IfOk result (λ place. (w : World Q) → IsStateOf T.rows w state.old → (s : Submitted) → job_of w job ≡ Some s → (step_ended (record w { steps = without_claim job attempt w.steps }) job attempt Done (job_of w job)).ready ≡ insert w.ready place (record { range = s.range; job = job; origin = origin_of w s })) }
     ensures orderly { IsOrderly state.new }
     ensures err { OnErr result ((w : World Q) → IsStateOf T.rows w state.old → IsStateOf T.rows w state.new) }
     ensures err_kept { OnErr result (KeepsData state.old state.new) }

@@ -2,12 +2,13 @@ use Rattle.std.proofs.Common.{◌≡◌, ℕ, ◌+◌, ◌-◌, ◌<◌, [], ◌
 use Rattle.std.proofs.lemmas.Option.{slice_get_read}
 use Rattle.job_machine.specs.Job.{Act, next}
 use Rattle.run_history.specs.Steps.{without_claim}
-use Rattle.run_history.specs.World.{job_of}
+use Rattle.run_history.specs.World.{Submitted, World, job_of, origin_of}
+use Rattle.std.specs.List.{insert}
 use Rattle.run_state.specs.States.{submitted_of}
 use Rattle.run_state.specs.Orders.{IsFreeFor}
 use Rattle.run_state.specs.declared.parts.JobEntry.{JobEntry}
 use Rattle.run_state.specs.declared.parts.ReadySegment.{ReadySegment}
-use Rattle.run_state.proofs.Turns.{same_world, job_of_entry, ended_kept, current_within, current_entry, last_entry, ended_count, ended_products, finished_job, finished_ready, place_at}
+use Rattle.run_state.proofs.Turns.{same_world, job_of_entry, ended_kept, current_within, current_entry, last_entry, ended_count, ended_products, finished_job, finished_ready, finished_set, place_at}
 use Rattle.run_state.proofs.Ends.{finished_world}
 use Rattle.run_state.proofs.Lists.{some_eq}
 use Rattle.run_state.proofs.Swaps.{map_insert}
@@ -54,6 +55,22 @@ returns-clause-state g c = λ w i.
       accepted = i.accepted;
       answered = i.answered;
     })
+
+pub returns-clause-ready : goal.returns-clause-ready
+returns-clause-ready g c = λ w i s e.
+    let ch = c.finish_at.ensures in
+    let within = current_within c.args.state.now.jobs.items c.args.job c.args.attempt c.requires.current in
+    let back : c.args.job - 1 + 1 ≡ c.args.job = let pos : 0 < c.args.job = within.0 in omega arith in
+    let current = current_entry c.args.state.now.jobs.items c.args.job (c.args.job - 1) c.args.attempt ch.entry back ch.at c.requires.current in
+    let last = last_entry c.args.state.now.jobs.items c.args.job (c.args.job - 1) true ch.entry back ch.at c.requires.last in
+    let there = job_of_entry g.T.TableHandle.rows w c.args.state.now i c.args.job ch.entry within.0 ch.at in
+    let read = slice_get_read c.args.state.now.jobs.items _ (c.args.job - 1) c.index.result.now refl within.1 c.index.ensures in
+    let same : ch.entry ≡ c.index.result.now = some_eq ch.entry c.index.result.now (sym ch.at ∙ read) in
+    let told : submitted_of g.T.TableHandle.rows ch.entry ≡ s = some_eq (submitted_of g.T.TableHandle.rows ch.entry) s (sym there ∙ e) in
+    let made = λ (t : Submitted). record { range = t.range; job = c.args.job; origin = origin_of w t } in
+    ap (λ (v : World _). v.ready) (finished_world (record w { steps = without_claim c.args.job c.args.attempt w.steps }) c.args.job c.args.attempt (submitted_of g.T.TableHandle.rows ch.entry) (job_of w c.args.job) there current last)
+    ∙ (finished_set g.T.TableHandle.rows w c.args.state.now (record { range = c.index.result.now.range; job = c.args.job; «data» = c.args.sealed }) c.in_ok-place.place c.place_segment.new.ranges (made (submitted_of g.T.TableHandle.rows ch.entry)) i c.requires.orderly.ranges (ap (λ (e : JobEntry _ _). place_at e.range c.args.job) same) c.in_ok-place.ensures.within c.in_ok-place.ensures.range c.in_ok-place.ensures.apart
+    ∙ ap (λ (t : Submitted). insert w.ready c.in_ok-place.place (made t)) told)
 
 pub returns-clause-products : goal.returns-clause-products
 returns-clause-products g c = ended_products g.T.TableHandle.rows c.args.state.now.jobs.items c.finish_at.new.jobs.items (c.args.job - 1) c.args.attempt _ c.finish_at.ensures

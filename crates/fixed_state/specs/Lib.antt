@@ -1,0 +1,5 @@
+pub mod States
+pub mod Tasks
+pub mod Ends
+pub mod Ready
+pub mod Kept

@@ -1,0 +1,30 @@
+//! What a run over the fixed cube keeps: the handles of loaded tables, the products of steps done and the cells of ready segments, as
+//! the parameters of the bookkeeping of `run_state`; and what they have to do with the cube.
+//!
+//! At its boundary:
+//!
+//! - `specs/Kept.antt` says what is kept of a world (`AreKept`): a product for each step done of a live job, and the cells of each ready
+//!   segment; where hands are honest they are those that the tasks ask for, and the base cuboids of the segments' rows.
+//! - [`task_of_job`] makes the task of a job's next step from what is kept, and [`end_step`] takes a product or records why it isn't taken.
+//! - [`ReadyCells`] answers the one query over the cells of a ready set.
+//!
+//! The modules: `table`, `product`, `cells`: what is kept; `tasks`: tasks; `ends`: ends of steps; `laws`: the invariant, turn by turn.
+#![tactic(none)]
+
+mod cells;
+mod ends;
+mod product;
+mod table;
+mod tasks;
+
+pub use cells::{ReadyCells, SharedCells, ready_cells};
+pub use ends::{end_step, outcome_of};
+pub use product::KeptProduct;
+pub use table::SharedTable;
+pub use tasks::task_of_job;
+
+use plain_answer::Ask;
+use run_state::RunState;
+
+/// The state of a run over the fixed cube.
+pub type FixedState = RunState<SharedTable, KeptProduct, SharedCells, Ask>;
