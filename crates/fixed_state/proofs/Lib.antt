@@ -1,0 +1,5 @@
+pub mod Pairs
+pub mod Jobs
+pub mod Tasks
+pub mod Events
+pub mod Ends

@@ -87,9 +87,14 @@ fn keep_cells(
     ensures err { OnErr result ((w : World Query) → StandsFor w state.old → StandsFor w state.new) }
     ensures err_kept { OnErr result (KeepsData state.old state.new) }
 {
-    let sealed = SharedCells::new(alloc, cells)?;
-    end_finished(state, job, attempt, sealed)?;
-    Ok(())
+    let sealed = match SharedCells::new(alloc, cells) {
+        Ok(sealed) => sealed,
+        Err(e) => return Err(e),
+    };
+    match end_finished(state, job, attempt, sealed) {
+        Ok(_) => Ok(()),
+        Err(e) => Err(e),
+    }
 }
 
 // A product that was read is kept.

@@ -21,8 +21,8 @@ ghost use Rattle.run_history.specs.World.{Submitted, Waiting, Asked, busy, job_o
 ghost use Rattle.run_history.specs.declared.event.Outcome.{Outcome};
 ghost use Rattle.run_history.specs.declared.event.Outcome.TheVariants.{Damaged};
 ghost use Rattle.run_state.specs.Answers.{steer_answer};
-ghost use Rattle.run_state.specs.States.{place_kept, place_of, submitted_of};
-ghost use Rattle.step_fields.specs.Fits.{FitsRows, IsDay};
+ghost use Rattle.run_state.specs.States.{answered_in, place_kept, place_of, submitted_of};
+ghost use Rattle.step_fields.specs.Fits.{FitsRows};
 ghost use Rattle.job_board.specs.declared.answers.BoardRefusal.TheVariants.{Memory};
 ghost use Rattle.plain_answer.specs.declared.ask.Ask.{Ask as Query};
 
@@ -35,7 +35,7 @@ use job_machine::{Job, JobKind};
 use outside::{HandFault, Honest};
 use range_list::Range;
 use run_history::{Control, Event, Noted, Outcome, QueryOut, Refused};
-use run_state::{Controlled, JobEntry, ReadySegment};
+use run_state::{Controlled, JobEntry, QueryInFlight, ReadySegment, Session};
 use std::alloc::{AllocError, Global};
 use std::marker::{Model, PhantomData};
 use std::sync::Arc;
@@ -76,6 +76,25 @@ fn table_names(alloc: Global) -> Result<Vec<NameText>, AllocError>
     Ok(names)
 }
 
+// The query in flight of a line.
+fn query_of(asked: &[QueryInFlight], line: u32) -> Option<QueryInFlight>
+    ensures { result ≡ find (λ q. q.line == line) asked.now }
+{
+    asked.iter().find(|query| query.line == line).copied()
+}
+
+// The version of a session's last answer; 0 before it.
+fn answered_of(sessions: &[Session], session: u32) -> u32
+    ensures { result ≡ answered_in sessions.now session }
+{
+    for listed in sessions {
+        if listed.session == session {
+            return listed.answered;
+        }
+    }
+    0
+}
+
 impl<H: Honest> Board<H> {
     /// The board before the first turn.
     pub fn new(alloc: Global, workers: u32) -> Result<Board<H>, AllocError>
@@ -104,9 +123,13 @@ impl<H: Honest> Board<H> {
         ensures room { OnOk result (0 < self.new.room) }
     {
         self.room = 0;
-        reserve_log(&mut self.log)?;
-        self.room = 1;
-        Ok(())
+        match reserve_log(&mut self.log) {
+            Ok(()) => {
+                self.room = 1;
+                Ok(())
+            }
+            Err(e) => Err(e),
+        }
     }
 
     /// Whether what a command waits for is there.
@@ -126,7 +149,10 @@ impl<H: Honest> Board<H> {
         ensures products { self.new.products ≡ self.old.products }
         ensures err { OnErr result (self.new ≡ self.old) }
     {
-        let logged = SharedTable::of(rows.clone()?);
+        let logged = match rows.clone() {
+            Ok(rows) => SharedTable::of(rows),
+            Err(e) => return Err(e),
+        };
         run_state::load(&mut self.state, line, table, SharedTable::of(rows));
         record_turn(&mut self.log, BoardTurn::Loads(line, table, logged));
         self.room = 0;
@@ -137,7 +163,6 @@ impl<H: Honest> Board<H> {
     pub fn submit(&mut self, line: u32, range: Range) -> Result<u32, BoardRefusal>
         requires room { 0 < self.old.room }
         requires above { (now self.old).line < line }
-        requires day { IsDay range.end }
         ensures number { IfOk result (λ number. number ≡ length (now self.old).jobs + 1) }
         ensures accepted { OnOk result (verdict fixed (now self.old) (Submit Build range) ≡ None) }
         ensures added { OnOk result (IsAdded self.old (Takes line (Submit Build range)) self.new) }
@@ -147,6 +172,7 @@ impl<H: Honest> Board<H> {
         ensures refused_products { OnErr result (self.new.products ≡ self.old.products) }
         ensures memory { IsErrOf result Memory → self.new ≡ self.old }
     {
+        let _last_day = range.end().number();
         match run_state::build_refusal(&self.state, &self.names, &range) {
             Ok(None) => {}
             Ok(Some(refused)) => {
@@ -208,8 +234,14 @@ impl<H: Honest> Board<H> {
         ensures products { self.new.products ≡ self.old.products }
         ensures err { OnErr result (self.new ≡ self.old) }
     {
-        let query = by_first(self.alloc)?;
-        run_state::ask(&mut self.state, line, session, query)?;
+        let query = match by_first(self.alloc) {
+            Ok(query) => query,
+            Err(e) => return Err(e),
+        };
+        match run_state::ask(&mut self.state, line, session, query) {
+            Ok(()) => {}
+            Err(e) => return Err(e),
+        }
         record_turn(&mut self.log, BoardTurn::Asks(line, session));
         self.room = 0;
         Ok(())
@@ -239,8 +271,14 @@ impl<H: Honest> Board<H> {
         let Some(job) = self.state.queue.front() else {
             return Ok(None);
         };
-        let task = task_of_job(self.alloc, &self.state, job)?;
-        let attempt = run_state::claim(&mut self.state, self.alloc, job)?;
+        let task = match task_of_job(self.alloc, &self.state, job) {
+            Ok(task) => task,
+            Err(e) => return Err(e),
+        };
+        let attempt = match run_state::claim(&mut self.state, self.alloc, job) {
+            Ok(attempt) => attempt,
+            Err(e) => return Err(e),
+        };
         record_turn(&mut self.log, BoardTurn::Claims(job, attempt));
         self.room = 0;
         Ok(Some(Work { job, attempt, task }))
@@ -287,9 +325,15 @@ impl<H: Honest> Board<H> {
         let Some(place) = run_state::next_query(&self.state) else {
             return Ok(None);
         };
-        let cells = ready_cells(self.alloc, &self.state.segments)?;
+        let cells = match ready_cells(self.alloc, &self.state.segments) {
+            Ok(cells) => cells,
+            Err(e) => return Err(e),
+        };
         let version = self.state.version;
-        let query = run_state::take_query(&mut self.state, place)?;
+        let query = match run_state::take_query(&mut self.state, place) {
+            Ok(query) => query,
+            Err(e) => return Err(e),
+        };
         record_turn(&mut self.log, BoardTurn::QueryTakes(query.line));
         self.room = 0;
         Ok(Some(QueryWork {
@@ -311,6 +355,42 @@ impl<H: Honest> Board<H> {
         run_state::end_query(&mut self.state, line, out);
         record_turn(&mut self.log, BoardTurn::QueryEnds(line, out));
         self.room = 0;
+    }
+
+    /// Whether this attempt of the job was claimed and has no end yet.
+    pub fn is_claimed(&self, job: u32, attempt: u32) -> bool
+        ensures { (result ≡ true) ↔ (0 < claim_count job attempt (now self.now).steps) }
+    {
+        self.state
+            .steps
+            .iter()
+            .any(|claim| claim.job == job && claim.attempt == attempt)
+    }
+
+    /// Whether the query of this line was taken and has no end yet.
+    pub fn is_asked(&self, line: u32) -> bool
+        ensures { (result ≡ true) ↔ IsInFlight (now self.now) line }
+    {
+        self.state.asked.iter().any(|query| query.line == line)
+    }
+
+    /// Whether the query of this line may end so: it is in flight, and the version of its answer is lawful.
+    pub fn may_end(&self, line: u32, out: &QueryOut) -> bool
+        ensures { (result ≡ true) ↔ (IsInFlight (now self.now) line × IsFresh (now self.now) (QueryEnds line out.now)) }
+    {
+        let Some(query) = query_of(&self.state.asked, line) else {
+            return false;
+        };
+        match out {
+            QueryOut::Memory => true,
+            QueryOut::Answered(version) => {
+                let answered = answered_of(&self.state.sessions, query.session);
+                query.at_command <= *version
+                    && query.at_take <= *version
+                    && answered <= *version
+                    && *version <= self.state.version
+            }
+        }
     }
 
     /// Whether the queue is empty, nothing is in flight, and each accepted query has its end.
@@ -378,6 +458,13 @@ impl<H: Honest> Board<H> {
         ensures { result ≡ (now self.now).accepted }
     {
         self.state.accepted
+    }
+
+    /// For how many turns there is room.
+    pub fn room(&self) -> usize
+        ensures { result ≡ self.now.room }
+    {
+        self.room
     }
 
     /// The line of the last command; 0 before it.

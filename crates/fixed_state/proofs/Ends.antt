@@ -1,0 +1,168 @@
+-- The job whose step ends.
+use Rattle.std.proofs.Common.{◌≡◌, ℕ, zero, suc, ◌+◌, ◌-◌, ◌<◌, Bool, true, false, cond, ◌==◌, Option, Some, None, Result, Ok, Err, List, [], ◌∷◌, ◌++◌, length, map, set, slice_get, unwrap_or, refl, sym, ap, ◌∙◌, subst, arith}
+use Rattle.std.proofs.lemmas.Bool.{eqb-true}
+use Rattle.std.proofs.lemmas.Option.{slice_get-map}
+use Rattle.std.specs.Prelude.{Vec, is_some, option_map}
+use Rattle.std.specs.declared.alloc.Global.{Global}
+use Rattle.fixed_cube.specs.Cells.{Cell, base_of}
+use Rattle.fixed_cube.specs.Cube.{fixed, job_task, rows_of}
+use Rattle.fixed_cube.specs.Tasks.{product_in, product_of}
+use Rattle.fixed_cube.specs.declared.products.FixedProduct.TheVariants.{Rows as RowsProduct, Cells}
+use Rattle.cube_val.specs.declared.val.Val.{Val}
+use Rattle.job_machine.specs.Job.{Act, JobRecord, is_current, is_last_step, next}
+use Rattle.job_machine.specs.declared.state.Ended.{Ended}
+use Rattle.job_machine.specs.declared.state.Ended.TheVariants as ended
+use Rattle.job_machine.specs.declared.state.JobKind.TheVariants.{Build}
+use Rattle.plain_answer.specs.declared.ask.Ask.{Ask as Query}
+use Rattle.range_list.specs.Ranges.{Interval}
+use Rattle.run_history.specs.Cubes.{Rows, Snapshot}
+use Rattle.run_history.specs.Steps.{end_by}
+use Rattle.run_history.specs.World.{Submitted, World, in_force, job_at, job_of, next_task}
+use Rattle.run_history.specs.declared.event.Outcome.{Outcome}
+use Rattle.run_history.specs.declared.event.Outcome.TheVariants.{Done}
+use Rattle.run_history.proofs.Jobs.{Counts, current_counts, running_live}
+use Rattle.run_state.specs.Orders.{IsBuildAt, IsFreeFor, IsOrderly, IsQueued, data_of, is_current_at, is_last_at, products_of}
+use Rattle.run_state.specs.States.{entry_at, submitted_of}
+use Rattle.run_state.proofs.SoundStates.{free, queued}
+use Rattle.run_state.proofs.Turns.{job_by_entry}
+use Rattle.fixed_state.specs.Ends.{Answer, IsProductOf, ended_at, kept_of, products_after, world_ended}
+use Rattle.fixed_state.specs.Kept.{AreKept, IsFixedState, IsKept, first_snapshot}
+use Rattle.fixed_state.specs.Ready.{IsPlaced, segment_of}
+use Rattle.fixed_state.specs.States.{FixedEntry, FixedState, StandsFor, rows_seen}
+use Rattle.fixed_state.specs.Tasks.{snapshot_now, task_kept}
+use Rattle.fixed_state.proofs.Events.{kept_advanced, kept_finished, kept_of_job, segment_kept}
+use Rattle.fixed_state.proofs.Jobs.{fits_tables, kept_advance, kept_finish}
+use Rattle.fixed_state.proofs.Tasks.{last_base, last_no_rows, made_now, next_of_build}
+
+-- ---- the entry of a job
+
+-- a job whose attempt counts
+pub record IsThere (jobs : List FixedEntry) (job attempt : ℕ) : Type 0 where
+  pub entry : FixedEntry
+  pub at : entry_at jobs job ≡ Some entry
+  pub current : is_current entry.job attempt ≡ true
+
+pub there_is : (jobs : List FixedEntry) (job attempt : ℕ) → is_current_at (entry_at jobs job) attempt ≡ true → IsThere jobs job attempt
+there_is jobs job attempt h = by_entry (entry_at jobs job) refl h
+  where
+    by_entry : (o : Option FixedEntry) → entry_at jobs job ≡ o → is_current_at o attempt ≡ true → IsThere jobs job attempt
+    by_entry None e f = cc
+    by_entry (Some entry) e f = record { entry = entry; at = e; current = f }
+
+-- its place among the jobs
+pub entry_place_of : (jobs : List FixedEntry) (job : ℕ) (entry : FixedEntry) → entry_at jobs job ≡ Some entry → slice_get jobs (job - 1) ≡ Some entry
+entry_place_of jobs zero entry e = cc
+entry_place_of jobs (suc place) entry e = let there : place ≡ suc place - 1 = omega arith in subst (λ (i : ℕ). slice_get jobs i ≡ Some entry) there e
+
+pub job_pos : (jobs : List FixedEntry) (job : ℕ) (entry : FixedEntry) → entry_at jobs job ≡ Some entry → 0 < job
+job_pos jobs zero entry e = cc
+job_pos jobs (suc place) entry e = omega arith
+
+pub kept_at : (s : FixedState) (job : ℕ) (entry : FixedEntry) → entry_at s.jobs.items job ≡ Some entry → kept_of (products_of s) job ≡ entry.products.items
+kept_at s job entry e =
+    ap (λ (o : Option (List (List ℕ))). unwrap_or o []) (slice_get-map (λ (x : FixedEntry). x.products.items) s.jobs.items (job - 1) ∙ ap (option_map (λ (x : FixedEntry). x.products.items)) (entry_place_of s.jobs.items job entry e))
+
+pub job_there : (w : World Query) (s : FixedState) (job : ℕ) (entry : FixedEntry) → StandsFor w s → entry_at s.jobs.items job ≡ Some entry → job_of w job ≡ Some (submitted_of rows_seen entry)
+job_there w s job entry i e =
+    ap (λ (jobs : List Submitted). job_at jobs job) i.jobs ∙ (job_by_entry rows_seen s.jobs.items job ∙ ap (option_map (submitted_of rows_seen)) e)
+
+-- ---- the job whose attempt counts, in a state as it should be
+
+same_tables : (o : Option (List Rows)) (forced : List Rows) → is_some o ≡ true → unwrap_or o [] ≡ unwrap_or o forced
+same_tables None forced h = cc
+same_tables (Some tables) forced h = refl
+
+module _ (honest : Type 0) (s : FixedState) (job attempt : ℕ) (f : IsFixedState honest s) (t : IsThere s.jobs.items job attempt) where
+  abbrev pub submitted_now : Submitted
+  submitted_now = submitted_of rows_seen t.entry
+
+  pub counts_now : Counts t.entry.job attempt
+  counts_now = current_counts t.entry.job attempt t.current
+
+  pub there_now : (w : World Query) → StandsFor w s → job_of w job ≡ Some submitted_now
+  there_now w i = job_there w s job t.entry i t.at
+
+  pub tables_now : is_some submitted_now.tables ≡ true
+  tables_now = (f.sound.numbered job submitted_now (there_now f.w f.stands)).snapshot counts_now.in_flight
+
+  pub kept_now : (w : World Query) → StandsFor w s → AreKept honest w (products_of s) (data_of s) → IsKept honest submitted_now (kept_of (products_of s) job)
+  kept_now w i k = kept_of_job honest w (products_of s) (data_of s) k job attempt submitted_now (there_now w i)
+
+  pub own_kept : IsKept honest submitted_now (kept_of (products_of s) job)
+  own_kept = kept_now f.w f.stands f.kept
+
+  pub queued_now : IsQueued s
+  queued_now = queued fixed rows_seen f.w s f.sound f.stands
+
+  pub free_now : IsFreeFor s (entry_at s.jobs.items job)
+  free_now = free fixed rows_seen f.w s f.sound f.stands f.orderly job attempt (ap (λ (o : Option FixedEntry). is_current_at o attempt) t.at ∙ t.current) (subst (IsBuildAt {T = Rows} {P = List ℕ}) (sym t.at) own_kept.build)
+
+  pub counted_now : length (kept_of (products_of s) job) ≡ t.entry.job.done
+  counted_now = own_kept.counted (running_live t.entry.job.state counts_now.running)
+
+  -- where the next step is the last, two are done
+  pub two_done : is_last_step t.entry.job ≡ true → length (kept_of (products_of s) job) ≡ 2
+  two_done last =
+      let more : t.entry.job.done + 1 ≡ t.entry.job.steps = eqb-true (t.entry.job.done + 1) t.entry.job.steps last in
+      let three : t.entry.job.steps ≡ 3 = own_kept.steps in
+      omega (arith, counted_now)
+
+  -- the snapshot of the first claim is the one that the task is made of
+  pub same_snapshot : (w : World Query) → first_snapshot submitted_now ≡ snapshot_now w submitted_now
+  same_snapshot w = ap (λ (tables : List Rows). record { tables = tables; range = submitted_now.range }) (same_tables submitted_now.tables (in_force w) tables_now)
+
+  -- an honest hand's product
+  pub due_now : (w : World Query) (bytes : Vec ℕ Global) → StandsFor w s → IsProductOf w (job_of w job) attempt (Ok bytes) → bytes.items ≡ product_of (job_task (snapshot_now w submitted_now) t.entry.job.done)
+  due_now w bytes i h =
+      let told = subst (λ (o : Option Submitted). IsProductOf w o attempt (Ok bytes)) (there_now w i) h in
+      told t.current ∙ ap product_of (next_of_build w submitted_now own_kept.build)
+
+  -- ---- what is kept after a success
+
+  pub advanced_now : (w : World Query) (bytes : Vec ℕ Global) → StandsFor w s → AreKept honest w (products_of s) (data_of s) → (honest → IsProductOf w (job_of w job) attempt (Ok bytes)) → is_last_step t.entry.job ≡ false
+      → AreKept honest (world_ended w job attempt Done) (set (products_of s) (job - 1) (kept_of (products_of s) job ++ bytes.items ∷ [])) (data_of s)
+  advanced_now w bytes i k product more =
+      kept_advanced honest w (products_of s) (data_of s) k job attempt submitted_now bytes.items (there_now w i) t.current more
+      (kept_advance honest submitted_now (kept_of (products_of s) job) bytes.items counts_now.running tables_now
+      (λ h. due_now w bytes i (product h) ∙ ap (λ (snapshot : Snapshot). product_of (job_task snapshot t.entry.job.done)) (sym (same_snapshot w))) (kept_now w i k))
+
+  pub finished_now : (w : World Query) (bytes : Vec ℕ Global) (sealed : List Cell) (after : List (List Cell)) → StandsFor w s → AreKept honest w (products_of s) (data_of s) → (honest → IsProductOf w (job_of w job) attempt (Ok bytes))
+      → is_last_step t.entry.job ≡ true → ((snapshot : Snapshot) → product_in (task_kept snapshot (kept_of (products_of s) job)) bytes.items ≡ Some (Cells sealed))
+      → IsPlaced (segment_of w job submitted_now) w.ready (world_ended w job attempt Done).ready sealed (data_of s) after
+      → AreKept honest (world_ended w job attempt Done) (set (products_of s) (job - 1) []) after
+  finished_now w bytes sealed after i k product last reads placed =
+      let kept = kept_now w i k in
+      let two = two_done last in
+      let done : t.entry.job.done ≡ 2 = sym counted_now ∙ two in
+      let snapshot = snapshot_now w submitted_now in
+      let fits = fits_tables submitted_now.tables submitted_now.range w.loaded k.loaded kept.fits in
+      kept_finished honest w (products_of s) (data_of s) k job attempt submitted_now sealed after (there_now w i) t.current last
+      (kept_finish honest submitted_now (kept_of (products_of s) job) counts_now.running tables_now kept)
+      (segment_kept honest w (products_of s) (data_of s) k job attempt submitted_now sealed (there_now w i)
+      (λ h. last_base snapshot (kept_of (products_of s) job) bytes.items sealed fits two (reads snapshot) (due_now w bytes i (product h) ∙ ap (λ (n : ℕ). product_of (job_task snapshot n)) done)))
+      placed
+
+  pub no_rows_now : (bytes : List ℕ) (rows : List (List Val)) → is_last_step t.entry.job ≡ true → ((snapshot : Snapshot) → product_in (task_kept snapshot (kept_of (products_of s) job)) bytes ≡ Some (RowsProduct rows)) → ⊥
+  no_rows_now bytes rows last reads = last_no_rows (first_snapshot submitted_now) (kept_of (products_of s) job) bytes rows (two_done last) (reads (first_snapshot submitted_now))
+
+  last_is : (b : Bool) → is_last_at (entry_at s.jobs.items job) ≡ b → is_last_step t.entry.job ≡ b
+  last_is b h = sym (ap is_last_at t.at) ∙ h
+
+  pub last_now : is_last_at (entry_at s.jobs.items job) ≡ true → is_last_step t.entry.job ≡ true
+  last_now h = last_is true h
+
+  pub more_now : is_last_at (entry_at s.jobs.items job) ≡ false → is_last_step t.entry.job ≡ false
+  more_now h = last_is false h
+
+  -- ---- what the end is to the job
+
+  ok_ended : (b : Bool) → is_last_step t.entry.job ≡ b → ended_at (entry_at s.jobs.items job) attempt Done ≡ cond b ended.Finished ended.Advanced
+  ok_ended b h =
+      ap (λ (o : Option FixedEntry). ended_at o attempt Done) t.at
+      ∙ (ap (λ (c : Bool). cond c (cond (is_last_step t.entry.job) ended.Finished ended.Advanced) ended.Stale) t.current ∙ ap (λ (c : Bool). cond c ended.Finished ended.Advanced) h)
+
+  pub ended_advanced : is_last_step t.entry.job ≡ false → ended_at (entry_at s.jobs.items job) attempt Done ≡ ended.Advanced
+  ended_advanced h = ok_ended false h
+
+  pub ended_finished : is_last_step t.entry.job ≡ true → ended_at (entry_at s.jobs.items job) attempt Done ≡ ended.Finished
+  ended_finished h = ok_ended true h
