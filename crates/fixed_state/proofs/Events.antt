@@ -34,7 +34,7 @@ use Rattle.fixed_state.specs.Ready.{IsPlaced, base_of_segment, segment_of}
 use Rattle.fixed_state.specs.Tasks.{snapshot_now}
 use Rattle.fixed_state.proofs.Jobs.{IsNoStep, fits_tables, kept_act, kept_advance, kept_claim, kept_finish}
 use Rattle.fixed_state.proofs.Pairs.{fits_at, fits_insert, fits_push, fits_set, fits_set_left, job_place}
-use Rattle.fixed_state.proofs.Tasks.{origin_of_build}
+use Rattle.fixed_state.proofs.TaskFacts.{origin_of_build}
 
 all_push : {X : Type 0} (P : X → Type 0) (xs : List X) (x : X) → AllByRecursion P xs → P x → AllByRecursion P (xs ++ x ∷ [])
 all_push P [] x h k = (k, tt)
@@ -42,19 +42,19 @@ all_push P (y ∷ xs) x h k = (h.0, all_push P xs x h.1 k)
 
 all_filter : {X : Type 0} (P : X → Type 0) (test : X → Bool) (xs : List X) → AllByRecursion P xs → AllByRecursion P (filter test xs)
 all_filter P test [] h = tt
-all_filter P test (x ∷ xs) h = by_test (test x)
+all_filter P test (x ∷ xs) h = by_test (test x) (all_filter P test xs h.1)
   where
-    by_test : (b : Bool) → AllByRecursion P (cond b (x ∷ filter test xs) (filter test xs))
-    by_test true = (h.0, all_filter P test xs h.1)
-    by_test false = all_filter P test xs h.1
+    by_test : (b : Bool) → AllByRecursion P (filter test xs) → AllByRecursion P (cond b (x ∷ filter test xs) (filter test xs))
+    by_test true rest = (h.0, rest)
+    by_test false rest = rest
 
 all_found : {X : Type 0} (P : X → Type 0) (test : X → Bool) (xs : List X) (x : X) → AllByRecursion P xs → find test xs ≡ Some x → P x
 all_found P test [] x h e = cc
-all_found P test (y ∷ xs) x h e = by_test (test y) e
+all_found P test (y ∷ xs) x h e = by_test (test y) (all_found P test xs x h.1) e
   where
-    by_test : (b : Bool) → cond b (Some y) (find test xs) ≡ Some x → P x
-    by_test true f = let same : y ≡ x = cc in subst P same h.0
-    by_test false f = all_found P test xs x h.1 f
+    by_test : (b : Bool) → (find test xs ≡ Some x → P x) → cond b (Some y) (find test xs) ≡ Some x → P x
+    by_test true rest f = let same : y ≡ x = cc in subst P same h.0
+    by_test false rest f = rest f
 
 no_act : (control : Control) → IsNoStep (act_of control)
 no_act Pause = tt
@@ -80,7 +80,7 @@ module _ (honest : Type 0) where
     pub kept_submit : (line : ℕ) (range : Interval) → IsDayRange range → AreKept honest (submitted (record w { line = line }) Build 3 range) (products ++ [] ∷ []) cells
     kept_submit line range days = record {
       loaded = k.loaded;
-      jobs = fits_push (IsKept honest) w.jobs products _ [] k.jobs (record { build = refl; steps = refl; fits = (days, omega arith, tt); begun = λ _. refl; counted = λ _. refl; made = λ _ _. refl });
+      jobs = fits_push (IsKept honest) w.jobs products _ [] k.jobs (record { build = refl; steps = refl; fits = (days, (omega arith, tt)); begun = λ _. refl; counted = λ _. refl; made = λ _ _. refl });
       ready = k.ready;
       waiting = k.waiting;
       asked = k.asked;

@@ -89,8 +89,8 @@ due_tables None range forced done h =
 module _ (honest : Type 0) where
   -- an act that is no success of a step keeps it
   pub kept_act : (act : Act) (s : Submitted) (kept : List (List ℕ)) → IsNoStep act → IsKept honest s kept → IsKept honest (record s { job = next act s.job }) kept
-  kept_act act s kept no k =
-      let e = done_next act s.job no in
+  kept_act act s kept quiet k =
+      let e = done_next act s.job quiet in
       let same = same_job act s.job in
       record {
         build = same.kind ∙ k.build;

@@ -1,5 +1,6 @@
 pub mod Pairs
 pub mod Jobs
-pub mod Tasks
+pub mod TaskFacts
 pub mod Events
-pub mod Ends
+pub mod EndFacts
+pub mod ReadyFacts

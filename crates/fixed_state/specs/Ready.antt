@@ -20,7 +20,7 @@ abbrev pub segment_of : {Query : Type 0} → World Query → ℕ → Submitted �
 segment_of w job s = record { range = s.range; job = job; origin = origin_of w s }
 
 -- a segment and its cells came at the same place
-pub record IsPlaced (segment : Segment) (old new : ReadySet) (cells : List Cell) (before after : List (List Cell)) : Type 0 where
+pub record IsPlaced (segment : Segment) (old new : ReadySet) (added : List Cell) (before after : List (List Cell)) : Type 0 where
   pub place : ℕ
   pub segments : new ≡ insert old place segment
-  pub cells : after ≡ insert before place cells
+  pub cells : after ≡ insert before place added

@@ -106,7 +106,10 @@ pub fn ready_cells(
 }
 
 // The cells behind the handles.
-fn refs_of<'a>(alloc: Global, segments: &'a [SharedCells]) -> Result<Vec<&'a FixedCells>, AllocError>
+fn refs_of<'a>(
+    alloc: Global,
+    segments: &'a [SharedCells],
+) -> Result<Vec<&'a FixedCells>, AllocError>
     ensures { IfOk result (λ lists. map (λ cells. cells.now) lists.items ≡ segments.now) }
 {
     let mut lists = Vec::new(alloc);

@@ -120,10 +120,10 @@ fn keep<H: Honest>(
     if !is_last_step(&state.jobs, job) {
         return end_advanced(state, job, attempt, KeptProduct::of(bytes));
     }
-    let FixedProduct::Cells(cells) = product else {
-        unreachable!();
-    };
-    keep_cells(state, alloc, job, attempt, cells)
+    match product {
+        FixedProduct::Cells(cells) => keep_cells(state, alloc, job, attempt, cells),
+        FixedProduct::Rows(_) => unreachable!(),
+    }
 }
 
 // The product of a step, as a hand gave it, is kept; or why it isn't.
@@ -177,11 +177,14 @@ fn take_answer<H: Honest>(
     ensures products { products_of state.new ≡ products_after (ended_at (entry_at state.old.jobs.items job) attempt result) job answer (products_of state.old) }
     ensures orderly { IsOrderly state.new }
 {
-    let taken = match answer {
-        Ok(bytes) => take_product::<H>(state, alloc, job, attempt, bytes),
-        Err(fault) => Err(outcome_of(fault)),
+    let bytes = match answer {
+        Ok(bytes) => bytes,
+        Err(fault) => {
+            end_failed(state, job, attempt);
+            return outcome_of(fault);
+        }
     };
-    match taken {
+    match take_product::<H>(state, alloc, job, attempt, bytes) {
         Ok(()) => Outcome::Done,
         Err(outcome) => {
             end_failed(state, job, attempt);

@@ -9,7 +9,7 @@
 //! - [`ReadyCells`] answers the one query over the cells of a ready set.
 //!
 //! The modules: `table`, `product`, `cells`: what is kept; `tasks`: tasks; `ends`: ends of steps; `laws`: the invariant, turn by turn.
-#![tactic(none)]
+#![tactic(auto)]
 
 mod cells;
 mod ends;
@@ -19,12 +19,11 @@ mod tasks;
 
 pub use cells::{ReadyCells, SharedCells, ready_cells};
 pub use ends::{end_step, outcome_of};
+use plain_answer::Ask;
 pub use product::KeptProduct;
+use run_state::RunState;
 pub use table::SharedTable;
 pub use tasks::task_of_job;
-
-use plain_answer::Ask;
-use run_state::RunState;
 
 /// The state of a run over the fixed cube.
 pub type FixedState = RunState<SharedTable, KeptProduct, SharedCells, Ask>;

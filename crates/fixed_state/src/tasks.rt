@@ -1,6 +1,7 @@
 // The tasks of steps, from what is kept.
 
-ghost use Rattle.std.specs.Prelude.{◌≡◌, ◌≤◌, ◌<◌, IfOk, ForSome, IsSome, length};
+ghost use Rattle.std.specs.Prelude.{◌≡◌, ◌≤◌, ◌<◌, IfOk, IsSome, length};
+ghost use Rattle.std.specs.Option.{ForSome};
 ghost use Rattle.fixed_cube.specs.Columns.{row_limit};
 ghost use Rattle.fixed_cube.specs.Cube.{fact_rows, job_task};
 ghost use Rattle.run_state.specs.States.{entry_at, rows_in_force};

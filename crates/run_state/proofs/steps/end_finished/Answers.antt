@@ -1,9 +1,13 @@
-use Rattle.std.proofs.Common.{◌≡◌, ℕ, ◌+◌, ◌-◌, ◌<◌, [], ◌∷◌, true, length, map, refl, sym, ap, ◌∙◌, subst, arith, length-append}
+use Rattle.std.proofs.Common.{◌≡◌, ℕ, ◌+◌, ◌-◌, ◌<◌, List, [], ◌∷◌, true, length, map, refl, sym, ap, ◌∙◌, subst, arith, length-append}
 use Rattle.std.proofs.lemmas.Option.{slice_get_read}
 use Rattle.job_machine.specs.Job.{Act, next}
+use Rattle.run_history.specs.Sets.{Segment}
 use Rattle.run_history.specs.Steps.{without_claim}
-use Rattle.run_history.specs.World.{Submitted, World, job_of, origin_of}
-use Rattle.std.specs.List.{insert}
+use Rattle.job_machine.specs.declared.state.JobKind.{JobKind}
+use Rattle.job_machine.specs.declared.state.JobKind.TheVariants.{Build, Refresh, Merge}
+use Rattle.run_history.specs.Cubes.{Snapshot}
+use Rattle.run_history.specs.World.{Submitted, World, job_of, origin_of, parts_by}
+use Rattle.std.specs.List.{flat_map, insert}
 use Rattle.run_state.specs.States.{submitted_of}
 use Rattle.run_state.specs.Orders.{IsFreeFor}
 use Rattle.run_state.specs.declared.parts.JobEntry.{JobEntry}
@@ -14,6 +18,15 @@ use Rattle.run_state.proofs.Lists.{some_eq}
 use Rattle.run_state.proofs.Swaps.{map_insert}
 use Rattle.run_state.proofs.Entries.{entry_place}
 use Rattle.run_state.proofs.steps.end_finished.Goals as goal
+
+-- claims are no part of what a segment is made of
+same_origin : {Query : Type 0} (w : World Query) (claims : List (ℕ × ℕ)) (s : Submitted) → origin_of (record w { steps = claims }) s ≡ origin_of w s
+same_origin w claims s = by_kind s.job.kind
+  where
+    by_kind : (kind : JobKind) → flat_map (λ (part : List Snapshot). part) (parts_by kind (record w { steps = claims }) s) ≡ flat_map (λ (part : List Snapshot). part) (parts_by kind w s)
+    by_kind Build = refl
+    by_kind Refresh = refl
+    by_kind Merge = refl
 
 pub overflow_sub-at : goal.overflow_sub-at
 overflow_sub-at g c = let within = current_within c.args.state.now.jobs.items c.args.job c.args.attempt c.requires.current in let pos : 0 < c.args.job = within.0 in omega arith
@@ -67,10 +80,12 @@ returns-clause-ready g c = λ w i s e.
     let read = slice_get_read c.args.state.now.jobs.items _ (c.args.job - 1) c.index.result.now refl within.1 c.index.ensures in
     let same : ch.entry ≡ c.index.result.now = some_eq ch.entry c.index.result.now (sym ch.at ∙ read) in
     let told : submitted_of g.T.TableHandle.rows ch.entry ≡ s = some_eq (submitted_of g.T.TableHandle.rows ch.entry) s (sym there ∙ e) in
-    let made = λ (t : Submitted). record { range = t.range; job = c.args.job; origin = origin_of w t } in
+    let unclaimed = record w { steps = without_claim c.args.job c.args.attempt w.steps } in
+    let made : Submitted → Segment = λ t. record { range = t.range; job = c.args.job; origin = origin_of unclaimed t } in
     ap (λ (v : World _). v.ready) (finished_world (record w { steps = without_claim c.args.job c.args.attempt w.steps }) c.args.job c.args.attempt (submitted_of g.T.TableHandle.rows ch.entry) (job_of w c.args.job) there current last)
     ∙ (finished_set g.T.TableHandle.rows w c.args.state.now (record { range = c.index.result.now.range; job = c.args.job; «data» = c.args.sealed }) c.in_ok-place.place c.place_segment.new.ranges (made (submitted_of g.T.TableHandle.rows ch.entry)) i c.requires.orderly.ranges (ap (λ (e : JobEntry _ _). place_at e.range c.args.job) same) c.in_ok-place.ensures.within c.in_ok-place.ensures.range c.in_ok-place.ensures.apart
-    ∙ ap (λ (t : Submitted). insert w.ready c.in_ok-place.place (made t)) told)
+    ∙ (ap (λ (t : Submitted). insert w.ready c.in_ok-place.place (made t)) told
+    ∙ ap (λ (origin : List Snapshot). insert w.ready c.in_ok-place.place (record { range = s.range; job = c.args.job; origin = origin })) (same_origin w (without_claim c.args.job c.args.attempt w.steps) s)))
 
 pub returns-clause-products : goal.returns-clause-products
 returns-clause-products g c = ended_products g.T.TableHandle.rows c.args.state.now.jobs.items c.finish_at.new.jobs.items (c.args.job - 1) c.args.attempt _ c.finish_at.ensures

@@ -1,5 +1,5 @@
 -- The job whose step ends.
-use Rattle.std.proofs.Common.{◌≡◌, ℕ, zero, suc, ◌+◌, ◌-◌, ◌<◌, Bool, true, false, cond, ◌==◌, Option, Some, None, Result, Ok, Err, List, [], ◌∷◌, ◌++◌, length, map, set, slice_get, unwrap_or, refl, sym, ap, ◌∙◌, subst, arith}
+use Rattle.std.proofs.Common.{◌≡◌, ℕ, zero, suc, ◌+◌, ◌-◌, ◌<◌, ◌≤◌, OnOk, Bool, true, false, cond, ◌==◌, Option, Some, None, Result, Ok, Err, List, [], ◌∷◌, ◌++◌, length, map, set, slice_get, unwrap_or, refl, sym, ap, ◌∙◌, subst, arith}
 use Rattle.std.proofs.lemmas.Bool.{eqb-true}
 use Rattle.std.proofs.lemmas.Option.{slice_get-map}
 use Rattle.std.specs.Prelude.{Vec, is_some, option_map}
@@ -25,14 +25,17 @@ use Rattle.run_state.specs.Orders.{IsBuildAt, IsFreeFor, IsOrderly, IsQueued, da
 use Rattle.run_state.specs.States.{entry_at, submitted_of}
 use Rattle.run_state.proofs.SoundStates.{free, queued}
 use Rattle.run_state.proofs.Turns.{job_by_entry}
-use Rattle.fixed_state.specs.Ends.{Answer, IsProductOf, ended_at, kept_of, products_after, world_ended}
+use Rattle.fixed_state.specs.Ends.{Answer, IsProductOf, ended_at, kept_of, outcome_of, products_after, world_ended}
 use Rattle.fixed_state.specs.Kept.{AreKept, IsFixedState, IsKept, first_snapshot}
 use Rattle.fixed_state.specs.Ready.{IsPlaced, segment_of}
 use Rattle.fixed_state.specs.States.{FixedEntry, FixedState, StandsFor, rows_seen}
 use Rattle.fixed_state.specs.Tasks.{snapshot_now, task_kept}
-use Rattle.fixed_state.proofs.Events.{kept_advanced, kept_finished, kept_of_job, segment_kept}
+use Rattle.fixed_state.proofs.Events.{kept_absent, kept_advanced, kept_failed, kept_finished, kept_of_job, kept_stale, segment_kept}
+use Rattle.outside.specs.declared.hand.HandFault.{HandFault}
+use Rattle.outside.specs.declared.hand.HandFault.TheVariants as fault
+use Rattle.run_state.specs.Answers.{is_failure}
 use Rattle.fixed_state.proofs.Jobs.{fits_tables, kept_advance, kept_finish}
-use Rattle.fixed_state.proofs.Tasks.{last_base, last_no_rows, made_now, next_of_build}
+use Rattle.fixed_state.proofs.TaskFacts.{last_base, last_no_rows, made_now, next_of_build}
 
 -- ---- the entry of a job
 
@@ -166,3 +169,66 @@ module _ (honest : Type 0) (s : FixedState) (job attempt : ℕ) (f : IsFixedStat
 
   pub ended_finished : is_last_step t.entry.job ≡ true → ended_at (entry_at s.jobs.items job) attempt Done ≡ ended.Finished
   ended_finished h = ok_ended true h
+
+  -- ---- ends that fail
+
+  pub failed_now : (w : World Query) (outcome : Outcome) → StandsFor w s → AreKept honest w (products_of s) (data_of s) → is_failure outcome ≡ true → AreKept honest (world_ended w job attempt outcome) (products_of s) (data_of s)
+  failed_now w outcome i k fails = kept_failed honest w (products_of s) (data_of s) k job attempt outcome submitted_now (there_now w i) fails t.current
+
+  pub few_now : length (kept_of (products_of s) job) < 255
+  few_now =
+      let three : t.entry.job.steps ≡ 3 = own_kept.steps in
+      let progress : t.entry.job.done ≤ t.entry.job.steps = (f.sound.numbered job submitted_now (there_now f.w f.stands)).by_table.progress in
+      omega (arith, counted_now)
+
+pub outcome_fails : (fault : HandFault) → is_failure (outcome_of fault) ≡ true
+outcome_fails fault.Memory = refl
+outcome_fails fault.NotStarted = refl
+outcome_fails (fault.Ended status) = refl
+outcome_fails fault.Killed = refl
+outcome_fails fault.NoFile = refl
+
+-- the products of a job by its place
+pub kept_here : (s : FixedState) (job : ℕ) (entry : FixedEntry) → slice_get s.jobs.items (job - 1) ≡ Some entry → kept_of (products_of s) job ≡ entry.products.items
+kept_here s job entry e =
+    ap (λ (o : Option (List (List ℕ))). unwrap_or o []) (slice_get-map (λ (x : FixedEntry). x.products.items) s.jobs.items (job - 1) ∙ ap (option_map (λ (x : FixedEntry). x.products.items)) e)
+
+-- two states of a world have the same attempts that count
+abbrev current_of : Option Submitted → ℕ → Bool
+current_of None attempt = false
+current_of (Some s) attempt = is_current s.job attempt
+
+current_by : (o : Option FixedEntry) (attempt : ℕ) → is_current_at o attempt ≡ current_of (option_map (submitted_of rows_seen) o) attempt
+current_by None attempt = refl
+current_by (Some entry) attempt = refl
+
+current_in : (w : World Query) (s : FixedState) (job attempt : ℕ) → StandsFor w s → is_current_at (entry_at s.jobs.items job) attempt ≡ current_of (job_of w job) attempt
+current_in w s job attempt i =
+    current_by (entry_at s.jobs.items job) attempt
+    ∙ ap (λ (o : Option Submitted). current_of o attempt) (sym (ap (λ (jobs : List Submitted). job_at jobs job) i.jobs ∙ job_by_entry rows_seen s.jobs.items job))
+
+pub still_current : (w : World Query) (s s' : FixedState) (job attempt : ℕ) → StandsFor w s → StandsFor w s' → is_current_at (entry_at s.jobs.items job) attempt ≡ true → is_current_at (entry_at s'.jobs.items job) attempt ≡ true
+still_current w s s' job attempt i i' h = current_in w s' job attempt i' ∙ (sym (current_in w s job attempt i) ∙ h)
+
+-- the end of an attempt that doesn't count leaves what is kept
+pub stale_now : (honest : Type 0) (w : World Query) (s : FixedState) (job attempt : ℕ) (outcome : Outcome) → StandsFor w s → AreKept honest w (products_of s) (data_of s) → is_current_at (entry_at s.jobs.items job) attempt ≡ false
+    → AreKept honest (world_ended w job attempt outcome) (products_of s) (data_of s)
+stale_now honest w s job attempt outcome i k h = by_job (job_of w job) refl
+  where
+    by_job : (o : Option Submitted) → job_of w job ≡ o → AreKept honest (world_ended w job attempt outcome) (products_of s) (data_of s)
+    by_job None e = kept_absent honest w (products_of s) (data_of s) k job attempt outcome e
+    by_job (Some t) e =
+        kept_stale honest w (products_of s) (data_of s) k job attempt outcome t e (sym (ap (λ (o : Option Submitted). current_of o attempt) e) ∙ (sym (current_in w s job attempt i) ∙ h))
+
+-- ---- answers
+
+pub on_ok : {A E P Q : Type 0} (r : Result A E) → (P → Q) → OnOk r P → OnOk r Q
+on_ok (Ok x) f p = f p
+on_ok (Err e) f p = p
+
+pub on_ok_both : {A E P Q R : Type 0} (r : Result A E) → (P → Q → R) → OnOk r P → OnOk r Q → OnOk r R
+on_ok_both (Ok x) f p q = f p q
+on_ok_both (Err e) f p q = p
+
+pub kept_again : (honest : Type 0) (w : World Query) (products products' : List (List (List ℕ))) (cells cells' : List (List Cell)) → products' ≡ products → cells' ≡ cells → AreKept honest w products cells → AreKept honest w products' cells'
+kept_again honest w products products' cells cells' p c k = rw (p, c) k

@@ -100,3 +100,15 @@ pub last_base : (snapshot : Snapshot) (kept : List (List ℕ)) (bytes : List ℕ
     → bytes ≡ product_of (job_task snapshot 2) → base_of (rows_of snapshot) ≡ cells
 last_base snapshot kept bytes cells f two e due =
     some_is (base_of (rows_of snapshot)) cells (sym (sealed_is snapshot f) ∙ (sym (ap (all_of cells_at) due) ∙ last_cells snapshot kept bytes cells two e))
+
+-- ---- what a product is read as
+
+-- of a first task the number of its step alone says what its products are
+pub first_products : (snapshot : Snapshot) (kept : List (List ℕ)) (bytes : List ℕ) → length kept ≡ 0 → product_in (1 ∷ []) bytes ≡ product_in (task_kept snapshot kept) bytes
+unfolding job_task
+first_products snapshot [] bytes e = refl
+first_products snapshot (x ∷ kept) bytes e = absurd (omega (arith, e))
+
+-- the task after some steps
+pub task_next : (snapshot : Snapshot) (kept : List (List ℕ)) (product : List ℕ) → slice_get kept (length kept - 1) ≡ Some product → task_kept snapshot kept ≡ task_after (length kept) product
+task_next snapshot kept product e = ap (task_by snapshot (length kept)) e
