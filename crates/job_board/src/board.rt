@@ -30,7 +30,9 @@ use crate::answers::{BoardRefusal, QueryWork, Work};
 use crate::turn::{BoardTurn, Log, record_turn, reserve_log};
 use cube_val::{NameText, Table};
 use fixed_cube::by_first;
-use fixed_state::{FixedState, KeptProduct, SharedCells, SharedTable, end_step, ready_cells, task_of_job};
+use fixed_state::{
+    FixedState, KeptProduct, SharedCells, SharedTable, end_step, ready_cells, task_of_job,
+};
 use job_machine::{Job, JobKind};
 use outside::{HandFault, Honest};
 use range_list::Range;

@@ -9,7 +9,7 @@
 //! count take no memory. A board knows one kind of job, BUILD, and the one query of the fixed cube.
 //!
 //! The modules: `turn`: turns and the log of them; `board`: the board; `answers`: what its calls answer.
-#![tactic(none)]
+#![tactic(auto)]
 
 mod answers;
 mod board;

@@ -84,7 +84,6 @@ fn range(rt: &impl Abort, start: &[u8], end: &[u8]) -> Range {
     range
 }
 
-
 // The next line of a script.
 fn next_line(rt: &impl Abort, board: &Board<AnyHand>) -> u32 {
     let line = board.line();
@@ -136,7 +135,13 @@ fn product<R: Abort + Threads + Sync>(
     panic!(rt; "a claim that was made");
 }
 
-fn end(rt: &impl Abort, desk: &mut Desk, job: u32, attempt: u32, answer: Result<Vec<u8>, HandFault>) {
+fn end(
+    rt: &impl Abort,
+    desk: &mut Desk,
+    job: u32,
+    attempt: u32,
+    answer: Result<Vec<u8>, HandFault>,
+) {
     assert!(rt; desk.board.is_claimed(job, attempt));
     let _ = desk.board.end_step(job, attempt, answer);
 }
@@ -150,7 +155,14 @@ fn take(rt: &impl Abort, desk: &mut Desk, wanted: Option<(u32, usize)>) -> Resul
     Ok(())
 }
 
-fn steer(rt: &impl Abort, desk: &mut Desk, control: Control, job: u32, stop: Option<u32>, accepted: bool) {
+fn steer(
+    rt: &impl Abort,
+    desk: &mut Desk,
+    control: Control,
+    job: u32,
+    stop: Option<u32>,
+    accepted: bool,
+) {
     let line = next_line(rt, &desk.board);
     match desk.board.control(line, control, job) {
         Ok(controlled) => assert!(rt; accepted && controlled.stop == stop),
@@ -209,62 +221,116 @@ fn step<R: Abort + Threads + Sync>(
 const KILLED: [(Call, Option<Event>); 17] = [
     (Call::Note(Noted::Other), Some(Event::Command(1))),
     (Call::Load, Some(Event::Command(2))),
-    (Call::Build(b"2012-01-01", b"2012-02-01", Some(1)), Some(Event::Command(3))),
+    (
+        Call::Build(b"2012-01-01", b"2012-02-01", Some(1)),
+        Some(Event::Command(3)),
+    ),
     (Call::Claim(Some(1)), Some(Event::Claim(1, 1))),
     (Call::Done(1, 1), Some(Event::StepEnd(1, 1, Outcome::Done))),
     (Call::Claim(Some(2)), Some(Event::Claim(1, 2))),
-    (Call::Fault(1, 2, HandFault::Killed), Some(Event::StepEnd(1, 2, Outcome::Killed))),
+    (
+        Call::Fault(1, 2, HandFault::Killed),
+        Some(Event::StepEnd(1, 2, Outcome::Killed)),
+    ),
     (Call::Note(Noted::AwaitJob(1)), Some(Event::Command(4))),
-    (Call::Steer(Control::Resume, 1, None, true), Some(Event::Command(5))),
+    (
+        Call::Steer(Control::Resume, 1, None, true),
+        Some(Event::Command(5)),
+    ),
     (Call::Claim(Some(2)), Some(Event::Claim(1, 3))),
     (Call::Done(1, 3), Some(Event::StepEnd(1, 3, Outcome::Done))),
     (Call::Claim(Some(3)), Some(Event::Claim(1, 4))),
     (Call::Done(1, 4), Some(Event::StepEnd(1, 4, Outcome::Done))),
     (Call::Ask(0), Some(Event::Command(6))),
     (Call::Take(Some((6, 1))), Some(Event::QueryTake(6))),
-    (Call::QueryEnd(6, QueryOut::Answered(1)), Some(Event::QueryEnd(6, QueryOut::Answered(1)))),
-    (Call::Build(b"2012-01-01", b"2012-02-01", None), Some(Event::Command(7))),
+    (
+        Call::QueryEnd(6, QueryOut::Answered(1)),
+        Some(Event::QueryEnd(6, QueryOut::Answered(1))),
+    ),
+    (
+        Call::Build(b"2012-01-01", b"2012-02-01", None),
+        Some(Event::Command(7)),
+    ),
 ];
 
 // A job that is paused in flight and resumed: the end of the old attempt counts for nothing; and one whose product is cut.
 const STALE: [(Call, Option<Event>); 13] = [
-    (Call::Build(b"2012-01-01", b"2012-02-01", None), Some(Event::Command(1))),
+    (
+        Call::Build(b"2012-01-01", b"2012-02-01", None),
+        Some(Event::Command(1)),
+    ),
     (Call::Load, Some(Event::Command(2))),
-    (Call::Build(b"2012-01-01", b"2012-02-01", Some(1)), Some(Event::Command(3))),
+    (
+        Call::Build(b"2012-01-01", b"2012-02-01", Some(1)),
+        Some(Event::Command(3)),
+    ),
     (Call::Claim(Some(1)), Some(Event::Claim(1, 1))),
-    (Call::Steer(Control::Pause, 1, Some(1), true), Some(Event::Command(4))),
+    (
+        Call::Steer(Control::Pause, 1, Some(1), true),
+        Some(Event::Command(4)),
+    ),
     (Call::Claim(None), None),
-    (Call::Steer(Control::Resume, 1, None, true), Some(Event::Command(5))),
+    (
+        Call::Steer(Control::Resume, 1, None, true),
+        Some(Event::Command(5)),
+    ),
     (Call::Done(1, 1), Some(Event::StepEnd(1, 1, Outcome::Done))),
     (Call::Claim(Some(1)), Some(Event::Claim(1, 2))),
-    (Call::Cut(1, 2), Some(Event::StepEnd(1, 2, Outcome::Damaged))),
-    (Call::Steer(Control::Pause, 1, None, false), Some(Event::Command(6))),
-    (Call::Steer(Control::Discard, 1, None, true), Some(Event::Command(7))),
+    (
+        Call::Cut(1, 2),
+        Some(Event::StepEnd(1, 2, Outcome::Damaged)),
+    ),
+    (
+        Call::Steer(Control::Pause, 1, None, false),
+        Some(Event::Command(6)),
+    ),
+    (
+        Call::Steer(Control::Discard, 1, None, true),
+        Some(Event::Command(7)),
+    ),
     (Call::Claim(None), None),
 ];
 
 // A job that is discarded at its seal, two sessions with two queries of the one, and a job after another in the queue.
 const DISCARDED: [(Call, Option<Event>); 21] = [
     (Call::Load, Some(Event::Command(1))),
-    (Call::Build(b"2012-01-01", b"2012-02-01", Some(1)), Some(Event::Command(2))),
-    (Call::Build(b"2012-02-01", b"2012-03-01", Some(2)), Some(Event::Command(3))),
-    (Call::Build(b"2012-01-15", b"2012-03-01", None), Some(Event::Command(4))),
+    (
+        Call::Build(b"2012-01-01", b"2012-02-01", Some(1)),
+        Some(Event::Command(2)),
+    ),
+    (
+        Call::Build(b"2012-02-01", b"2012-03-01", Some(2)),
+        Some(Event::Command(3)),
+    ),
+    (
+        Call::Build(b"2012-01-15", b"2012-03-01", None),
+        Some(Event::Command(4)),
+    ),
     (Call::Claim(Some(1)), Some(Event::Claim(1, 1))),
     (Call::Claim(Some(1)), Some(Event::Claim(2, 1))),
     (Call::Done(2, 1), Some(Event::StepEnd(2, 1, Outcome::Done))),
     (Call::Done(1, 1), Some(Event::StepEnd(1, 1, Outcome::Done))),
     (Call::Claim(Some(2)), Some(Event::Claim(2, 2))),
     (Call::Done(2, 2), Some(Event::StepEnd(2, 2, Outcome::Done))),
-    (Call::Steer(Control::Discard, 1, None, true), Some(Event::Command(5))),
+    (
+        Call::Steer(Control::Discard, 1, None, true),
+        Some(Event::Command(5)),
+    ),
     (Call::Claim(Some(3)), Some(Event::Claim(2, 3))),
-    (Call::Steer(Control::Discard, 2, Some(3), true), Some(Event::Command(6))),
+    (
+        Call::Steer(Control::Discard, 2, Some(3), true),
+        Some(Event::Command(6)),
+    ),
     (Call::Done(2, 3), Some(Event::StepEnd(2, 3, Outcome::Done))),
     (Call::Ask(4), Some(Event::Command(7))),
     (Call::Ask(4), Some(Event::Command(8))),
     (Call::Ask(9), Some(Event::Command(9))),
     (Call::Take(Some((7, 0))), Some(Event::QueryTake(7))),
     (Call::Take(Some((9, 0))), Some(Event::QueryTake(9))),
-    (Call::QueryEnd(7, QueryOut::Memory), Some(Event::QueryEnd(7, QueryOut::Memory))),
+    (
+        Call::QueryEnd(7, QueryOut::Memory),
+        Some(Event::QueryEnd(7, QueryOut::Memory)),
+    ),
     (Call::Take(Some((8, 0))), Some(Event::QueryTake(8))),
 ];
 
