@@ -41,7 +41,7 @@ has_steps kind = omega arith
 pub log_none : (room : ℕ) (log : Log) → IsLog room log → IsLog 0 log
 log_none room log l = record { history = l.history; turns_room = omega (arith, l.turns_room); history_room = omega (arith, l.history_room); few = omega (arith, l.few) }
 
-turns_added : (old : Log) (turn : BoardTurn) (new : Log) → IsRecorded old turn new → turns_of new.turns.items ≡ turns_of old.turns.items ++ turn_of turn ∷ []
+pub turns_added : (old : Log) (turn : BoardTurn) (new : Log) → IsRecorded old turn new → turns_of new.turns.items ≡ turns_of old.turns.items ++ turn_of turn ∷ []
 turns_added old turn new r = ap turns_of r.turns ∙ map-append turn_of old.turns.items (turn ∷ [])
 
 log_push : (room : ℕ) (old : Log) (turn : BoardTurn) (new : Log) → 0 < room → IsLog room old → IsRecorded old turn new → IsLog 0 new
@@ -107,7 +107,7 @@ module _ (honest : Type 0) (workers room : ℕ) (names : List (List ℕ)) (s : F
     claims_now = claims_world fixed has_steps workers so_far b.legal
 
     pub small_now : AreAtMost (vec_len log.turns) world_now
-    small_now = subst (λ (n : ℕ). AreAtMost n world_now) (length-map log.turns.items turn_of) (small_world fixed workers so_far)
+    small_now = let n : length log.turns.items ≡ vec_len log.turns = omega (arith, log.turns.ok.0) in subst (λ (n : ℕ). AreAtMost n world_now) (length-map log.turns.items turn_of ∙ n) (small_world fixed workers so_far)
 
     pub fixed_now : IsFixedState honest s
     fixed_now = record { w = world_now; stands = b.state; sound = sound_now; kept = b.kept; orderly = b.orderly }

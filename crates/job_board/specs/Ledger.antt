@@ -58,14 +58,15 @@ abbrev pub counts : Option Submitted → ℕ → Bool
 counts None attempt = false
 counts (Some s) attempt = is_current s.job attempt
 
+-- what is recorded of the end of an attempt, whether or not it counts
+abbrev pub IsCountedAs : Bool → List ℕ → Answer → Outcome → Type 0
+IsCountedAs true task answer outcome = IsOutcomeOf task answer outcome
+IsCountedAs false task answer outcome = outcome ≡ stale_outcome answer
+
 -- what is recorded of the end of an attempt of a job, of whose steps done these products are kept
 abbrev pub IsRecordedAs : World Ask → Option Submitted → List (List ℕ) → ℕ → Answer → Outcome → Type 0
 IsRecordedAs w None products attempt answer outcome = outcome ≡ stale_outcome answer
-IsRecordedAs w (Some s) products attempt answer outcome = by_count (is_current s.job attempt)
-  where
-    by_count : Bool → Type 0
-    by_count true = IsOutcomeOf (task_of w s products) answer outcome
-    by_count false = outcome ≡ stale_outcome answer
+IsRecordedAs w (Some s) products attempt answer outcome = IsCountedAs (is_current s.job attempt) (task_of w s products) answer outcome
 
 -- no query of the session is in flight
 abbrev pub is_free : World Ask → ℕ → Bool

@@ -1,7 +1,8 @@
 // The board.
 
-ghost use Rattle.std.specs.Prelude.{◌≡◌, ◌≢◌, ◌≤◌, ◌<◌, ◌+◌, ◌==◌, ◌⊎◌, ◌↔◌, ◌++◌, ◌∷◌, [], true, None, Some, IfErr, IfOk, IfSome, IsErrOf, OnErr, OnOk, find, length, map, option_map, slice_get};
+ghost use Rattle.std.specs.Prelude.{◌≡◌, ◌≢◌, ◌≤◌, ◌<◌, ◌+◌, ◌==◌, ◌&&◌, ◌⊎◌, ◌↔◌, ◌++◌, ◌∷◌, [], true, None, Some, IfErr, IfOk, IfSome, IsErrOf, OnErr, OnOk, find, length, map, option_map, slice_get};
 ghost use Rattle.std.specs.Arc.{arc_value};
+ghost use Rattle.std.specs.List.{list_any};
 ghost use Rattle.fixed_cube.specs.Columns.{fact_columns, row_limit};
 ghost use Rattle.fixed_cube.specs.Cube.{fixed};
 ghost use Rattle.fixed_cube.specs.Tasks.{IsTask};
@@ -37,7 +38,7 @@ use job_machine::{Job, JobKind};
 use outside::{HandFault, Honest};
 use range_list::Range;
 use run_history::{Control, Event, Noted, Outcome, QueryOut, Refused};
-use run_state::{Controlled, JobEntry, QueryInFlight, ReadySegment, Session};
+use run_state::{Claim, Controlled, JobEntry, QueryInFlight, ReadySegment, Session};
 use std::alloc::{AllocError, Global};
 use std::marker::{Model, PhantomData};
 use std::sync::Arc;
@@ -82,7 +83,23 @@ fn table_names(alloc: Global) -> Result<Vec<NameText>, AllocError>
 fn query_of(asked: &[QueryInFlight], line: u32) -> Option<QueryInFlight>
     ensures { result ≡ find (λ q. q.line == line) asked.now }
 {
-    asked.iter().find(|query| query.line == line).copied()
+    asked.iter().copied().find(|query| query.line == line)
+}
+
+// Whether a query in flight is of this line.
+fn has_line(asked: &[QueryInFlight], line: u32) -> bool
+    ensures { result ≡ list_any (λ q. q.line == line) asked.now }
+{
+    asked.iter().any(|query| query.line == line)
+}
+
+// Whether this attempt of the job is claimed.
+fn has_claim(steps: &[Claim], job: u32, attempt: u32) -> bool
+    ensures { result ≡ list_any (λ claim. (claim.job == job) && (claim.attempt == attempt)) steps.now }
+{
+    steps
+        .iter()
+        .any(|claim| claim.job == job && claim.attempt == attempt)
 }
 
 // The version of a session's last answer; 0 before it.
@@ -95,6 +112,16 @@ fn answered_of(sessions: &[Session], session: u32) -> u32
         }
     }
     0
+}
+
+// Whether a version is no older than those at the query's command and taking and of its session's last answer, and no newer than the last.
+fn is_lawful(query: QueryInFlight, answered: u32, last: u32, version: u32) -> bool
+    ensures { (result ≡ true) ↔ ((query.at_command ≤ version) × (query.at_take ≤ version) × (answered ≤ version) × (version ≤ last)) }
+{
+    query.at_command <= version
+        && query.at_take <= version
+        && answered <= version
+        && version <= last
 }
 
 impl<H: Honest> Board<H> {
@@ -363,17 +390,14 @@ impl<H: Honest> Board<H> {
     pub fn is_claimed(&self, job: u32, attempt: u32) -> bool
         ensures { (result ≡ true) ↔ (0 < claim_count job attempt (now self.now).steps) }
     {
-        self.state
-            .steps
-            .iter()
-            .any(|claim| claim.job == job && claim.attempt == attempt)
+        has_claim(&self.state.steps, job, attempt)
     }
 
     /// Whether the query of this line was taken and has no end yet.
     pub fn is_asked(&self, line: u32) -> bool
         ensures { (result ≡ true) ↔ IsInFlight (now self.now) line }
     {
-        self.state.asked.iter().any(|query| query.line == line)
+        has_line(&self.state.asked, line)
     }
 
     /// Whether the query of this line may end so: it is in flight, and the version of its answer is lawful.
@@ -387,10 +411,7 @@ impl<H: Honest> Board<H> {
             QueryOut::Memory => true,
             QueryOut::Answered(version) => {
                 let answered = answered_of(&self.state.sessions, query.session);
-                query.at_command <= *version
-                    && query.at_take <= *version
-                    && answered <= *version
-                    && *version <= self.state.version
+                is_lawful(query, answered, self.state.version, *version)
             }
         }
     }
