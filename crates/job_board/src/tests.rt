@@ -1,8 +1,15 @@
 //! Scripts of calls, and the histories that they give.
 
+ghost use Rattle.std.specs.Prelude.{◌<◌, IfOk};
+ghost use Rattle.fixed_cube.specs.Columns.{fact_columns, row_limit};
+ghost use Rattle.job_board.specs.Ledger.{now};
+ghost use Rattle.step_fields.specs.Fits.{FitsRows};
+
 use crate::{Board, BoardRefusal, SmallWork};
+use byte_frame::{FieldReader, ReadError};
 use calendar::Day;
 use cube_val::{Row, Table, TextVal, Val};
+use fixed_cube::{FACT_COLUMNS, ROW_LIMIT};
 use outside::{HandFault, Honest, NoWatch, StepWork};
 use range_list::Range;
 use run_history::{Control, Event, Noted, Outcome, QueryOut};
@@ -11,6 +18,7 @@ use std::process::Abort;
 use std::sync::Arc;
 use std::test::Fail;
 use std::thread::Threads;
+use step_fields::{put_rows, read_rows};
 
 // Hands of which nothing is known.
 struct AnyHand;
@@ -56,7 +64,7 @@ fn text(alloc: Global, bytes: &[u8]) -> Result<Val, Fail> {
 }
 
 // Three rows, of which two lie in January.
-fn small_table(alloc: Global) -> Result<Table, Fail> {
+fn three_rows(alloc: Global) -> Result<Table, Fail> {
     let facts: [(&[u8], &[u8], &[u8], i64); 3] = [
         (b"2012-01-01", b"a", b"x", 1),
         (b"2012-01-02", b"b", b"x", 2),
@@ -74,6 +82,31 @@ fn small_table(alloc: Global) -> Result<Table, Fail> {
     Ok(table)
 }
 
+// Rows that are read fit.
+fn read_table(alloc: Global, bytes: &[u8]) -> Result<Table, ReadError>
+    ensures { IfOk result (λ table. FitsRows fact_columns row_limit table) }
+{
+    let mut reader = FieldReader::new(bytes);
+    match read_rows(alloc, &FACT_COLUMNS, ROW_LIMIT, &mut reader) {
+        Ok(table) => Ok(table),
+        Err(e) => Err(e),
+    }
+}
+
+// The same rows, as they are read from bytes.
+fn small_table(rt: &impl Abort, alloc: Global) -> Result<Table, Fail>
+    ensures { IfOk result (λ table. FitsRows fact_columns row_limit table) }
+{
+    let rows = three_rows(alloc)?;
+    assert!(rt; rows.len() == 3);
+    let mut bytes = Vec::new(alloc);
+    put_rows(&mut bytes, rows.rows())?;
+    let Ok(table) = read_table(alloc, &bytes) else {
+        panic!(rt; "rows that were written");
+    };
+    Ok(table)
+}
+
 fn range(rt: &impl Abort, start: &[u8], end: &[u8]) -> Range {
     let (Some(start), Some(end)) = (Day::read(start), Day::read(end)) else {
         panic!(rt; "two days of the calendar");
@@ -85,14 +118,25 @@ fn range(rt: &impl Abort, start: &[u8], end: &[u8]) -> Range {
 }
 
 // The next line of a script.
-fn next_line(rt: &impl Abort, board: &Board<AnyHand>) -> u32 {
+fn next_line(rt: &impl Abort, board: &Board<AnyHand>) -> u32
+    ensures above { (now board.now).line < result }
+    ensures room { 0 < board.now.room }
+{
     let line = board.line();
     assert!(rt; line < 10_000);
+    has_room(rt, board);
     line + 1
 }
 
+fn has_room(rt: &impl Abort, board: &Board<AnyHand>)
+    ensures { 0 < board.now.room }
+{
+    let room = board.room();
+    assert!(rt; room > 0);
+}
+
 fn load(rt: &impl Abort, desk: &mut Desk, alloc: Global) -> Result<(), Fail> {
-    let table = small_table(alloc)?;
+    let table = small_table(rt, alloc)?;
     let line = next_line(rt, &desk.board);
     desk.board.load(line, 0, Arc::new(alloc, table)?)?;
     Ok(())
@@ -108,6 +152,7 @@ fn build(rt: &impl Abort, desk: &mut Desk, days: Range, wanted: Option<u32>) {
 }
 
 fn claim(rt: &impl Abort, desk: &mut Desk, wanted: Option<u8>) -> Result<(), Fail> {
+    has_room(rt, &desk.board);
     assert!(rt; desk.board.has_worker());
     match desk.board.claim()? {
         Some(work) => {
@@ -142,11 +187,13 @@ fn end(
     attempt: u32,
     answer: Result<Vec<u8>, HandFault>,
 ) {
+    has_room(rt, &desk.board);
     assert!(rt; desk.board.is_claimed(job, attempt));
     let _ = desk.board.end_step(job, attempt, answer);
 }
 
 fn take(rt: &impl Abort, desk: &mut Desk, wanted: Option<(u32, usize)>) -> Result<(), Fail> {
+    has_room(rt, &desk.board);
     assert!(rt; desk.board.has_worker());
     match desk.board.take_query()? {
         Some(work) => assert!(rt; Some((work.line, work.cells.len())) == wanted),
@@ -171,8 +218,8 @@ fn steer(
 }
 
 fn note(rt: &impl Abort, desk: &mut Desk, noted: Noted) {
-    assert!(rt; desk.board.may_take(&noted));
     let line = next_line(rt, &desk.board);
+    assert!(rt; desk.board.may_take(&noted));
     desk.board.note(line, noted);
 }
 
@@ -210,6 +257,7 @@ fn step<R: Abort + Threads + Sync>(
         Call::Fault(job, attempt, fault) => end(rt, desk, job, attempt, Err(fault)),
         Call::Take(wanted) => take(rt, desk, wanted)?,
         Call::QueryEnd(line, out) => {
+            has_room(rt, &desk.board);
             assert!(rt; desk.board.may_end(line, &out));
             desk.board.end_query(line, out);
         }
@@ -334,23 +382,32 @@ const DISCARDED: [(Call, Option<Event>); 21] = [
     (Call::Take(Some((8, 0))), Some(Event::QueryTake(8))),
 ];
 
+// The calls of a script, and the history that they have to give.
+fn follow<R: Abort + Threads + Sync>(
+    rt: &R,
+    alloc: Global,
+    script: &[(Call, Option<Event>)],
+) -> Result<(), Fail> {
+    let mut desk = Desk {
+        board: Board::new(alloc, 2)?,
+        tasks: Vec::new(alloc),
+    };
+    let mut wanted = Vec::new(alloc);
+    for (call, event) in script {
+        step(rt, alloc, &mut desk, *call)?;
+        if let Some(event) = event {
+            wanted.push(*event)?;
+        }
+    }
+    assert!(rt; desk.board.history() == wanted.as_slice());
+    Ok(())
+}
+
 #[test]
 fn scripts_give_their_histories(rt: HostRuntime) -> Result<(), Fail> {
     let alloc = rt.alloc();
-    let scripts: [&[(Call, Option<Event>)]; 3] = [&KILLED, &STALE, &DISCARDED];
-    for script in scripts {
-        let mut desk = Desk {
-            board: Board::new(alloc, 2)?,
-            tasks: Vec::new(alloc),
-        };
-        let mut wanted = Vec::new(alloc);
-        for (call, event) in script {
-            step(&rt, alloc, &mut desk, *call)?;
-            if let Some(event) = event {
-                wanted.push(*event)?;
-            }
-        }
-        assert!(&rt; desk.board.history() == wanted.as_slice());
-    }
+    follow(&rt, alloc, &KILLED)?;
+    follow(&rt, alloc, &STALE)?;
+    follow(&rt, alloc, &DISCARDED)?;
     Ok(())
 }
