@@ -1,0 +1,57 @@
+-- What the calls ask of a state, from what a board has of its history.
+use Rattle.std.proofs.Common.{◌≡◌, ℕ, zero, suc, ◌+◌, ◌-◌, ◌<◌, ◌≤◌, ◌^◌, Bool, true, false, cond, not, ◌==◌, Option, Some, None, List, [], ◌∷◌, ◌++◌, length, map, slice_get, unwrap_or, All, refl, sym, ap, ◌∙◌, subst, arith}
+use Rattle.std.proofs.lemmas.List.{length-map}
+use Rattle.std.specs.Prelude.{find, option_map, slice_index_or}
+use Rattle.std.proofs.lemmas.Option.{slice_get-map}
+use Rattle.std.specs.List.{list_any}
+use Rattle.fixed_cube.specs.Cube.{fixed}
+use Rattle.fixed_state.specs.Kept.{AreKept, IsLoaded}
+use Rattle.fixed_state.specs.States.{FixedEntry, FixedState, StandsFor, rows_seen}
+use Rattle.plain_answer.specs.declared.ask.Ask.{Ask as Query}
+use Rattle.run_history.specs.Bounds.{AreAtMost}
+use Rattle.run_history.specs.Cubes.{Rows}
+use Rattle.run_history.specs.Histories.{IsInFlight}
+use Rattle.run_history.specs.Invariants.{IsSound}
+use Rattle.run_history.specs.Sets.{Segment}
+use Rattle.run_history.specs.Verdicts.{most_segments}
+use Rattle.run_history.specs.World.{Asked, Submitted, World, busy, job_at, job_of}
+use Rattle.run_state.specs.States.{Place, claim_of, in_flight_of, place_kept, place_of, submitted_of}
+use Rattle.run_state.specs.declared.parts.Claim.{Claim}
+use Rattle.run_state.specs.declared.parts.QueryInFlight.{QueryInFlight}
+use Rattle.run_state.specs.declared.parts.ReadySegment.{ReadySegment}
+use Rattle.run_state.proofs.Lists.{any_map, find_map}
+
+get_at : {X : Type 0} (xs : List X) (k : ℕ) (d : X) → k < length xs → slice_get xs k ≡ Some (slice_index_or xs k d)
+get_at [] k d h = absurd (omega (arith, h))
+get_at (x ∷ xs) zero d h = refl
+get_at (x ∷ xs) (suc k) d h = get_at xs k d (omega (arith, h))
+
+module _ (w : World Query) (s : FixedState) (i : StandsFor w s) where
+  pub jobs_count : length s.jobs.items ≡ length w.jobs
+  jobs_count = sym (ap length i.jobs ∙ length-map s.jobs.items (submitted_of rows_seen))
+
+  pub loaded_count : IsLoaded w.loaded → length s.loaded.items ≡ 1
+  loaded_count l = sym (length-map s.loaded.items (option_map rows_seen)) ∙ (sym (ap length i.loaded) ∙ ap length l.only)
+
+  pub segments_count : length s.segments.items ≡ length w.ready
+  segments_count = sym (length-map s.segments.items place_kept) ∙ (sym (ap length i.ready) ∙ length-map w.ready place_of)
+
+  pub segments_few : IsSound fixed w → length s.segments.items ≤ most_segments
+  segments_few sound = omega (arith, segments_count, sound.room)
+
+  pub busy_count : length s.steps.items + length s.asked.items ≡ busy w
+  busy_count =
+      let steps : length w.steps ≡ length s.steps.items = ap length i.steps ∙ length-map s.steps.items claim_of in
+      let asked : length s.asked.items ≡ length w.asked = sym (ap length i.asked) ∙ length-map w.asked in_flight_of in
+      omega arith
+
+  -- attempts are few
+  pub attempts_few : (most : ℕ) → most + 1 < 2 ^ 32 → AreAtMost most w → All (λ entry. entry.job.attempt + 1 < 2 ^ 32) s.jobs.items
+  attempts_few most few small = λ k d lt.
+      let there : job_at w.jobs (suc k) ≡ Some (submitted_of rows_seen (slice_index_or s.jobs.items k d)) =
+      ap (λ (jobs : List Submitted). slice_get jobs k) i.jobs ∙ (slice_get-map (submitted_of rows_seen) s.jobs.items k ∙ ap (option_map (submitted_of rows_seen)) (get_at s.jobs.items k d lt)) in
+      let le : (slice_index_or s.jobs.items k d).job.attempt ≤ most = small.attempts (suc k) (submitted_of rows_seen (slice_index_or s.jobs.items k d)) there in
+      omega arith
+
+  pub in_flight_there : (line : ℕ) → IsInFlight w line → list_any (λ q. q.line == line) s.asked.items ≡ true
+  in_flight_there line h = ap (list_any (λ (q : QueryInFlight). q.line == line)) (sym i.asked) ∙ (any_map in_flight_of (λ q. q.line == line) w.asked ∙ h)
