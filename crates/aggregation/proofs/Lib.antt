@@ -1,2 +1,3 @@
 pub mod CellFacts
+pub mod DistinctFacts
 pub mod GroupFacts

@@ -1,4 +1,7 @@
 pub mod FirstColumns
+pub mod FormFacts
 pub mod GroupLemmas
 pub mod Judged
 pub mod Passed
+pub mod SeekFacts
+pub mod SoundFacts

@@ -1,5 +1,5 @@
 -- What holds of a descriptor that the checks pass.
-use Rattle.std.proofs.Common.{◌≡◌, ℕ, ◌<◌, ◌≤◌, List, [], ◌∷◌, ◌++◌, length, None, Bool, true, false, refl, arith}
+use Rattle.std.proofs.Common.{◌≡◌, ℕ, ◌<◌, ◌≤◌, List, [], ◌∷◌, ◌++◌, length, None, Bool, true, false, refl}
 use Rattle.std.specs.Prelude.{◌&&◌, nat_le, nat_lt}
 use Rattle.std.specs.List.{flat_map}
 use Rattle.std.proofs.lemmas.Bool.{ltb-true, leb-true}
@@ -16,15 +16,15 @@ use Rattle.desc_checks.specs.declared.kind.DescKind.TheVariants as kind
 
 -- ---- lists with no first
 
-none_both : {A : Type 0} (xs ys : List A) → first (xs ++ ys) ≡ None → (first xs ≡ None) × (first ys ≡ None)
+pub none_both : {A : Type 0} (xs ys : List A) → first (xs ++ ys) ≡ None → (first xs ≡ None) × (first ys ≡ None)
 none_both [] ys e = (refl, e)
 none_both (x ∷ xs) ys e = cc
 
-none_each : (k : DescKind) (ps : List Place) → first (each k ps) ≡ None → first ps ≡ None
+pub none_each : (k : DescKind) (ps : List Place) → first (each k ps) ≡ None → first ps ≡ None
 none_each k [] e = refl
 none_each k (p ∷ ps) e = cc
 
-none_unless : (b : Bool) (p : Place) → first (unless b p) ≡ None → b ≡ true
+pub none_unless : (b : Bool) (p : Place) → first (unless b p) ≡ None → b ≡ true
 none_unless true p e = refl
 none_unless false p e = cc
 
@@ -36,11 +36,11 @@ of_three a b c h = (none_both a b (none_both (a ++ b) c h).0).0
 of_five : (a b c d e : List Place) → first (a ++ b ++ c ++ d ++ e) ≡ None → first d ≡ None
 of_five a b c d e h = (none_both (a ++ b ++ c) d (none_both (a ++ b ++ c ++ d) e h).0).1
 
-both : (b c : Bool) → (b && c) ≡ true → (b ≡ true) × (c ≡ true)
+pub both : (b c : Bool) → (b && c) ≡ true → (b ≡ true) × (c ≡ true)
 both true c e = (refl, e)
 both false c e = cc
 
-up_to : (most n : ℕ) → is_some_up_to most n ≡ true → (0 < n) × (n ≤ most)
+pub up_to : (most n : ℕ) → is_some_up_to most n ≡ true → (0 < n) × (n ≤ most)
 up_to most n e = let t = both (nat_lt 0 n) (nat_le n most) e in (ltb-true 0 n t.0, leb-true n most t.1)
 
 pub rowkey_fits : (r : RawDesc) → first (faults r) ≡ None → (0 < length r.rowkey.items) × (length r.rowkey.items ≤ 20)

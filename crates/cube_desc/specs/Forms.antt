@@ -1,12 +1,11 @@
 -- The form of the table file of a table of the cube.
-use Rattle.std.specs.Prelude.{ℕ, zero, suc, List, [], map, Option, Some, None, Bool, true, false, ◌&&◌, ◌==◌, length, slice_get}
+use Rattle.std.specs.Prelude.{ℕ, zero, suc, List, [], map, Option, Some, None, Bool, false, ◌==◌, length, slice_get}
 use Rattle.std.specs.List.{list_any, range_with_len}
 use Rattle.cube_val.specs.declared.form.ColDesc.{ColDesc}
 use Rattle.cube_val.specs.declared.form.JoinStep.{JoinStep}
 use Rattle.cube_val.specs.declared.form.JoinPlan.{JoinPlan}
 use Rattle.cube_val.specs.declared.form.TableForm.{TableForm}
 use Rattle.cube_desc.specs.declared.desc.TableDesc.{TableDesc}
-use Rattle.cube_desc.specs.declared.desc.MeasureDesc.{MeasureDesc}
 use Rattle.cube_desc.specs.Cube.{Cube}
 
 abbrev pub is_of : ℕ → Option ℕ → Bool

@@ -1,5 +1,5 @@
 -- Aggregation groups, with the places of rowkey columns for their names, and the cuboids that they give.
-use Rattle.std.specs.Prelude.{ℕ, List, ◌++◌, map, Option, is_none, is_some, unwrap_or, Bool, ◌&&◌, nat_le, bytes_eq, length}
+use Rattle.std.specs.Prelude.{ℕ, List, map, Option, is_none, is_some, unwrap_or, Bool, ◌&&◌, nat_le, bytes_eq, length}
 use Rattle.std.specs.List.{flat_map, list_all, position}
 use Rattle.desc_shape.specs.Places.{Place}
 use Rattle.desc_shape.specs.declared.raw.RawName.{RawName}

@@ -3,3 +3,4 @@ pub mod Forms
 pub mod Groups
 pub mod Meaning
 pub mod Resolve
+pub mod Sound

@@ -1,5 +1,5 @@
 -- The descriptor with numbers for names. Where a name isn't there 0 stands for it; the checks leave no such name.
-use Rattle.std.specs.Prelude.{ℕ, suc, List, [], ◌∷◌, ◌++◌, map, Option, Some, None, unwrap_or, codes, Bool, bytes_eq, if◌then◌else◌, option_to_list, ◌==◌, slice_index}
+use Rattle.std.specs.Prelude.{ℕ, suc, List, [], ◌∷◌, ◌++◌, map, Option, Some, None, unwrap_or, codes, bytes_eq, if◌then◌else◌, option_to_list, ◌==◌}
 use Rattle.std.specs.List.{flat_map, list_any, position}
 use Rattle.cube_val.specs.declared.val.ColType.{ColType}
 use Rattle.cube_val.specs.declared.val.ColType.TheVariants as ty

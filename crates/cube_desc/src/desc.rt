@@ -1,9 +1,10 @@
 // A descriptor whose names are numbers.
 
-ghost use Rattle.std.specs.Prelude.{◌≡◌, ◌<◌, List, Some, length, map, IfOk};
+ghost use Rattle.std.specs.Prelude.{◌≡◌, ◌<◌, All, List, Some, length, map, IfOk};
 ghost use Rattle.std.specs.List.{list_any, range_with_len};
 ghost use Rattle.cube_desc.specs.Meaning as meanings;
 ghost use Rattle.cube_desc.specs.Forms as forms;
+ghost use Rattle.cube_desc.specs.Sound as sound;
 
 use agg_group::{Group, Mask};
 use cube_val::{ColDesc, Items, JoinPlan, NameText, TableForm, WideCol};
@@ -101,6 +102,7 @@ impl CubeDesc {
     pub fn parts(&self) -> &CubeParts
         ensures value { result.now ≡ self.now.cube }
         ensures read { meanings.desc_of self.now.source ≡ Some self.now.cube }
+        ensures sound { sound.IsSound self.now.cube }
     {
         &self.parts
     }
@@ -117,7 +119,9 @@ impl CubeDesc {
     /// columns that a measure is of no null may stand.
     pub fn form(&self, alloc: Global, table: usize) -> Result<TableForm, AllocError>
         requires { table < length self.now.cube.tables }
-        ensures { IfOk result (λ f. f ≡ forms.form_of self.now.cube table) }
+        ensures form { IfOk result (λ f. f ≡ forms.form_of self.now.cube table) }
+        ensures no_null { IfOk result (λ f. length f.no_null ≡ length f.cols) }
+        ensures key { IfOk result (λ f. All (λ place. place < length f.cols) f.key) }
     {
         form_of(alloc, &self.parts, table)
     }

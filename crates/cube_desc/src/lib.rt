@@ -10,17 +10,21 @@
 //! - A `CubeDesc` keeps its bytes, and its type keeps that it is what they mean, so nobody reads or checks them again.
 //! - Tables, columns and dimensions are numbers from here on: the fact table is 0, the lookups follow in their order, a
 //!   dimension is the place of its column in the rowkey.
+//! - Each number is that of something that is there (`IsSound` in `specs/Sound.antt`), so nobody tests it again.
 //!
-//! The modules: `desc` (the descriptor), `resolve` (names to numbers), `groups` (aggregation groups and cuboids), `read`.
+//! The modules: `desc` (the descriptor), `resolve` (names to numbers), `groups` (aggregation groups and cuboids), `read`,
+//! `laws` (what holds of all descriptors).
 #![tactic(auto)]
 
 mod desc;
 mod groups;
+mod laws;
 mod read;
 mod resolve;
 
 pub use desc::{CubeDesc, CubeParts, DerivedDesc, MeasureDesc, TableDesc};
 pub use desc_checks::{DescFault, DescKind};
+pub use laws::descriptors_are_sound;
 pub use read::{DescRefusal, read_desc};
 
 #[cfg(test)]

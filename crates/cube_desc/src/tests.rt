@@ -11,7 +11,84 @@ const BASE: &str =
 const WIDE: &str =
     "{'name':'w','tables':[{'name':'F','columns':[{'name':'A','type':'date'},{'name':'B','type':'int'},{'name':'C','type':'int'},{'name':'D','type':'int'},{'name':'E','type':'int'},{'name':'G','type':'int'},{'name':'H','type':'int'},{'name':'I','type':'int'},{'name':'J','type':'int'},{'name':'K','type':'int'}]}],'fact_table':'F','partition_date_column':'A','dimensions':[{'table':'F','column':'A'},{'table':'F','column':'B'},{'table':'F','column':'C'},{'table':'F','column':'D'},{'table':'F','column':'E'},{'table':'F','column':'G'},{'table':'F','column':'H'},{'table':'F','column':'I'},{'table':'F','column':'J'},{'table':'F','column':'K'}],'measures':[],'rowkey':['F.A','F.B','F.C','F.D','F.E','F.G','F.H','F.I','F.J','F.K'],'aggregation_groups':[{'includes':['F.A','F.B','F.C','F.D','F.E','F.G','F.H','F.I','F.J','F.K']}]}";
 
-// A text of the base and what stands in its place, twice, and what is answered, parted by |.
+// The whole text of examples/sales_cube.json, with ' for ".
+const SALES_CUBE: &str = "\
+{
+  'name': 'sales_cube',
+  'tables': [
+    {
+      'name': 'SALES',
+      'columns': [
+        { 'name': 'DT', 'type': 'date' },
+        { 'name': 'REGION', 'type': 'text' },
+        { 'name': 'CAT', 'type': 'text' },
+        { 'name': 'SELLER', 'type': 'int' },
+        { 'name': 'PRICE', 'type': 'decimal' }
+      ]
+    },
+    {
+      'name': 'SELLERS',
+      'columns': [
+        { 'name': 'ID', 'type': 'int' },
+        { 'name': 'CITY', 'type': 'text' }
+      ]
+    }
+  ],
+  'fact_table': 'SALES',
+  'lookups': [
+    {
+      'table': 'SELLERS',
+      'join': { 'type': 'left', 'primary_key': ['ID'], 'foreign_key': ['SELLER'] }
+    }
+  ],
+  'partition_date_column': 'DT',
+  'dimensions': [
+    { 'table': 'SALES', 'column': 'DT' },
+    { 'table': 'SALES', 'column': 'REGION' },
+    { 'table': 'SALES', 'column': 'CAT' },
+    { 'table': 'SELLERS', 'derived': ['CITY'] }
+  ],
+  'measures': [
+    {
+      'name': 'CNT',
+      'function': { 'expression': 'COUNT', 'parameter': { 'type': 'constant', 'value': '1' } }
+    },
+    {
+      'name': 'GMV',
+      'function': { 'expression': 'SUM', 'parameter': { 'type': 'column', 'value': 'PRICE' } }
+    },
+    {
+      'name': 'LOW',
+      'function': { 'expression': 'MIN', 'parameter': { 'type': 'column', 'value': 'PRICE' } }
+    },
+    {
+      'name': 'HIGH',
+      'function': { 'expression': 'MAX', 'parameter': { 'type': 'column', 'value': 'PRICE' } }
+    },
+    {
+      'name': 'SELLERS',
+      'function': {
+        'expression': 'COUNT_DISTINCT',
+        'parameter': { 'type': 'column', 'value': 'SELLER' }
+      }
+    }
+  ],
+  'rowkey': ['SALES.DT', 'SALES.REGION', 'SALES.CAT', 'SALES.SELLER'],
+  'aggregation_groups': [
+    {
+      'includes': ['SALES.DT', 'SALES.REGION', 'SALES.CAT'],
+      'select_rule': {
+        'mandatory_dims': ['SALES.DT'],
+        'hierarchy_dims': [],
+        'joint_dims': []
+      }
+    },
+    { 'includes': ['SALES.REGION', 'SALES.SELLER'] }
+  ]
+}
+";
+
+// Texts of the base, each with what stands in its place, and what is answered, parted by |. `~3~x#~` is x0,x1,x2.
 const CASES: &str = "\
 ||||ok
 {'name':'c'|'name':'c'|||NotJson
@@ -32,9 +109,20 @@ const CASES: &str = "\
 'column':'D'|'column':'D','derived':[]|'table':'F','column'|'column'|Shape /dimensions/0
 ,'column':'D'||||Shape /dimensions/0
 ['V']|['V',7]|||Shape /dimensions/1/derived/1
+{'name':'T','type':'text'}|{'name':'T','type':'text'},~60~{'name':'C#','type':'int'}~|||ok
+{'name':'T','type':'text'}|{'name':'T','type':'text'},~61~{'name':'C#','type':'int'}~|||TooMany /tables/0/columns
+],'fact_table'|,~7~{'name':'L#','columns':[{'name':'I','type':'int'}]}~],'fact_table'|],'partition|,~7~{'table':'L#','join':{'type':'inner','primary_key':['I'],'foreign_key':['K']}}~],'partition|ok
+],'fact_table'|,~8~{'name':'L#','columns':[{'name':'I','type':'int'}]}~],'fact_table'|],'partition|,~8~{'table':'L#','join':{'type':'inner','primary_key':['I'],'foreign_key':['K']}}~],'partition|TooMany /lookups
+{'name':'T','type':'text'}|~14~{'name':'C#','type':'int'}~|],'rowkey'|,~14~{'name':'X#','function':{'expression':'MIN','parameter':{'type':'column','value':'C#'}}}~],'rowkey'|ok
+{'name':'T','type':'text'}|~15~{'name':'C#','type':'int'}~|],'rowkey'|,~15~{'name':'X#','function':{'expression':'MIN','parameter':{'type':'column','value':'C#'}}}~],'rowkey'|TooMany /measures
+{'name':'T','type':'text'}|~18~{'name':'C#','type':'int'}~|],'measures'|,~18~{'table':'F','column':'C#'}~],'measures'|'f.k'|'f.k',~18~'f.c#'~|ok
+{'name':'T','type':'text'}|~19~{'name':'C#','type':'int'}~|],'measures'|,~19~{'table':'F','column':'C#'}~],'measures'|'f.k'|'f.k',~19~'f.c#'~|TooMany /rowkey
+{'includes':['F.D','F.K']}|~8~{'includes':['F.K']}~|||ok
+{'includes':['F.D','F.K']}|~9~{'includes':['F.K']}~|||TooMany /aggregation_groups
+['K']|[~4~'K'~]|['I']|[~4~'I'~]|ok
+['K']|[~5~'K'~]|['I']|[~5~'I'~]|BadJoin /lookups/0/join
 [{'name':'I','type':'int'},{'name':'V','type':'text'}]|[]|||TooMany /tables/1/columns
 ['F.D','f.k']|[]|||TooMany /rowkey
-{'includes':['F.D','F.K']}|{'includes':[]},{'includes':[]},{'includes':[]},{'includes':[]},{'includes':[]},{'includes':[]},{'includes':[]},{'includes':[]},{'includes':[]}|||TooMany /aggregation_groups
 'c'|''|||BadName /name
 'c'|'1c'|||BadName /name
 'c'|'_234567890123456789012345678901234567890123456789012345678901abc'|||ok
@@ -126,26 +214,59 @@ fn answer(alloc: Global, bytes: &[u8]) -> Result<String, AllocError> {
     }
 }
 
-fn answer_of_case(alloc: Global, line: &str) -> Result<(String, String), AllocError> {
-    let mut fields = line.split('|');
-    let old = fields.next().unwrap_or("");
-    let new = fields.next().unwrap_or("");
-    let second_old = fields.next().unwrap_or("");
-    let second_new = fields.next().unwrap_or("");
-    let want = fields.next().unwrap_or("");
-    let once = changed(alloc, BASE, old, new)?;
-    let text = changed(alloc, once.as_str(), second_old, second_new)?;
+// The copies of an item, `#` standing for the number of each, from 0 on.
+fn copies(alloc: Global, count: &str, item: &str) -> Result<String, AllocError> {
+    let mut text = String::new(alloc);
+    for i in 0..count.parse::<u32>().unwrap_or(0) {
+        if i > 0 {
+            text.push_str(",")?;
+        }
+        for c in item.chars() {
+            if c == '#' {
+                text.push_str(i.to_string(alloc)?.as_str())?;
+            } else {
+                text.push(c)?;
+            }
+        }
+    }
+    Ok(text)
+}
+
+// The text with the copies written out.
+fn written_out(alloc: Global, text: &str) -> Result<String, AllocError> {
+    let mut fields = text.split('~');
+    let before = fields.next().unwrap_or("");
+    let count = fields.next().unwrap_or("");
+    let item = fields.next().unwrap_or("");
+    let after = fields.next().unwrap_or("");
+    let items = copies(alloc, count, item)?;
+    format!(in alloc; "{before}{items}{after}")
+}
+
+fn answer_of_case(alloc: Global, changes: &str) -> Result<String, AllocError> {
+    let mut text = String::from_str(alloc, BASE)?;
+    let mut old = None;
+    for field in changes.split('|') {
+        old = match old {
+            None => Some(field),
+            Some(before) => {
+                let new = written_out(alloc, field)?;
+                text = changed(alloc, text.as_str(), before, new.as_str())?;
+                None
+            }
+        };
+    }
     let text = with_quotes(alloc, text.as_str())?;
-    let got = answer(alloc, text.as_bytes())?;
-    Ok((got, String::from_str(alloc, want)?))
+    answer(alloc, text.as_bytes())
 }
 
 #[test]
 fn each_fault_and_its_place(rt: HostRuntime) -> Result<(), Fail> {
     let alloc = rt.alloc();
     for line in CASES.lines() {
-        let (got, want) = answer_of_case(alloc, line)?;
-        assert_eq!(rt; got, want, "{line}");
+        let (changes, want) = line.rsplit_once('|').ok_or("a line has an answer")?;
+        let got = answer_of_case(alloc, changes)?;
+        assert_eq!(rt; got.as_str(), want, "{line}");
     }
     let wide = with_quotes(alloc, WIDE)?;
     let got = answer(alloc, wide.as_bytes())?;
@@ -187,5 +308,31 @@ fn numbers_for_names(rt: HostRuntime) -> Result<(), Fail> {
     let lookup = desc.form(alloc, 1)?;
     assert_eq!(rt; lookup.no_null.as_slice(), [false, false].as_slice());
     assert_eq!(rt; lookup.key.as_slice(), [0].as_slice());
+    Ok(())
+}
+
+#[test]
+fn the_example(rt: HostRuntime) -> Result<(), Fail> {
+    let alloc = rt.alloc();
+    let text = with_quotes(alloc, SALES_CUBE)?;
+    let Ok(desc) = read_desc(alloc, text.as_bytes()) else {
+        panic!(rt; "the example is refused");
+    };
+    let parts = desc.parts();
+    assert_eq!(rt; parts.name.bytes(), b"SALES_CUBE".as_slice());
+    let counts = [
+        parts.tables.len(),
+        parts.measures.len(),
+        parts.rowkey.len(),
+        parts.derived.len(),
+        parts.groups.len(),
+        parts.masks.len(),
+    ];
+    assert_eq!(rt; counts, [2, 5, 4, 1, 2, 8]);
+    // 1, 2, 3, 5, 7, 8, 10 and 15
+    let sizes = [1, 1, 2, 2, 3, 1, 2, 4];
+    for (mask, size) in parts.masks.as_slice().iter().zip(sizes) {
+        assert_eq!(rt; mask.count(), size);
+    }
     Ok(())
 }

@@ -1,22 +1,17 @@
 //! The program `cubes`: the commands of the engine over the files of the system and standard output.
 //!
-//! It is the top of the layers and holds no logic of its own. `os_files` and `std_sink` are the outside as the crates
-//! below meet it; they tell nothing of what files and standard output hold, so what is proved here is that the program
-//! is safe, that it ends, and that each fault raises its count. `main` reads the words, calls `run_plain` with them and
-//! ends with the status that it says.
+//! It is the top of the layers and holds no logic of its own. The outside as the crates below meet it comes from
+//! `os_objects`; it tells nothing of what files and standard output hold, so what is proved here is that the program
+//! is safe and that it ends. `main` reads the words, calls `run_plain` with them and ends with the status that it says.
 #![tactic(auto)]
-
-mod os_files;
-mod std_sink;
 
 use cubes_plain::run_plain;
 use cubes_plain::status::MEMORY;
-use os_files::OsFiles;
+use os_objects::{OsFiles, StdSink};
 use std::alloc::AllocError;
 use std::env;
 use std::io::ErrorKind;
 use std::process::ExitCode;
-use std_sink::StdSink;
 
 // The words after the program's own name. Words of which one is no text are no command's, and come as none.
 fn words<R: std::rt::Env + AllocGlobal>(rt: &R) -> Result<Vec<String>, AllocError> {

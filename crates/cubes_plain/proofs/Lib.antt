@@ -1,3 +1,4 @@
 pub mod FileFacts
 pub mod GroupFacts
 pub mod TableFacts
+pub mod WordFacts

@@ -1,3 +1,4 @@
+pub mod Descriptors
 pub mod Examples
 pub mod Files
 pub mod Folds

@@ -1,10 +1,13 @@
 //! The commands that run no jobs. `fold PATH` reads a CSV file with the header `D1,D2,M` and writes, for each D1 in
-//! order, how many rows it has and the sum of their M.
+//! order, how many rows it has and the sum of their M. `cuboids PATH` reads a descriptor and writes which cuboids its
+//! cube builds.
 //!
-//! The crate stands near the top: it reads through `outside::Files` and `table_reader`, keeps rows as `cube_val` has them, aggregates
-//! them by `aggregation` and `measure_laws`, and writes through `outside::Sink`. The way of the data is `words` (which
-//! command), `rows` (the bytes of a file to rows, by `table_reader`), `cells` (the rows to the cuboid by
-//! D1, by way of the cells by both columns, one D1 after another), `fold` (the cells to text) and `plain` (the top call).
+//! The crate stands near the top: the words come from `command_line`; it reads through `outside::Files` and
+//! `table_reader`, keeps rows as `cube_val` has them, aggregates them by `aggregation` and `measure_laws`, has descriptors
+//! from `cube_desc` and the lines of their cuboids from `cuboid_lines`, and writes through `outside::Sink`. The modules:
+//! `rows` (the bytes of a file to rows, by `table_reader`), `cells` (the rows to the cuboid by D1, by way of the cells by
+//! both columns, one D1 after another), `fold` (the cells to text), `fold_command` and `cuboids` (the commands over a path),
+//! `output` (what every command writes) and `plain` (the top call).
 //!
 //! The invariant at its boundary is the contract of `run_plain`: which status comes when, and what was written then.
 //! Each status but that of want of memory has its one cause; a fault of a read or a write is answered only where the
@@ -12,15 +15,19 @@
 #![tactic(auto)]
 
 mod cells;
+mod cuboids;
 mod examples;
 mod fold;
+mod fold_command;
+mod output;
 mod plain;
 mod rows;
 pub mod status;
-mod words;
 
 pub use examples::worked_examples;
+pub use output::{refuse, refuse_path};
 pub use plain::run_plain;
+pub use rows::kind_text;
 
 #[cfg(test)]
 mod tests;

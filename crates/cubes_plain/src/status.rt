@@ -15,6 +15,9 @@ pub const READ_FAULT: u8 = 3;
 /// The output could not be written.
 pub const WRITE_FAULT: u8 = 4;
 
+/// A file that was read is no descriptor.
+pub const BAD_DESCRIPTOR: u8 = 7;
+
 /// A file that was read is not the table that the command takes.
 pub const BAD_TABLE: u8 = 8;
 

@@ -1,1 +1,2 @@
+pub mod SearchFacts
 pub mod SnapFacts

@@ -1,6 +1,6 @@
 // The rows of a lookup by their keys.
 
-ghost use Rattle.std.specs.Prelude.{◌≡◌, ◌↔◌, ◌&&◌, not, List, All, IfOk, IsTrue, OnOk, Some, if◌then◌else◌, option_copied};
+ghost use Rattle.std.specs.Prelude.{◌≡◌, ◌<◌, ◌↔◌, ◌&&◌, not, List, [], All, IfOk, IsTrue, OnOk, Some, if◌then◌else◌, length, option_copied, slice_get};
 ghost use Rattle.std.specs.BTreeMap.{IsOrdered, get};
 ghost use Rattle.std.specs.Ordering.{is_eq};
 ghost use Rattle.cube_val.specs.Order.{row_cmp};
@@ -17,20 +17,19 @@ use std::marker::Model;
 /// The rows of a lookup by their keys. Contracts see it as the list of its entries, a key with its values each.
 #[derive(Drop)]
 pub struct LookupSnap {
-    rows: BTreeMap<Row, Row>,
+    entries: Vec<(Row, Row)>,
 }
 
 impl Model for LookupSnap {
     ghost use Rattle.std.specs.Prelude.{List};
-    ghost use Rattle.std.specs.BTreeMap.{IsOrdered};
-    ghost use Rattle.cube_val.specs.Order.{row_cmp};
     ghost use Rattle.cube_val.specs.declared.val.Val.{Val};
+    ghost use Rattle.lookup_snap.specs.Snaps.{IsRising};
 
     ghost Value = { List (List Val × List Val) };
 
-    ghost view = { λ snap. snap.rows.entries };
+    ghost view = { λ snap. snap.entries.items };
 
-    ghost invariant = { λ snap. IsOrdered row_cmp snap.rows };
+    ghost invariant = { λ snap. IsRising snap.entries.items };
 }
 
 // Adds the row's values at its key, in place of those that stood there. A row with a null in its key adds nothing.
@@ -75,7 +74,31 @@ impl LookupSnap {
         for i in 0..table.len() {
             add_row(alloc, &mut rows, key, cols, table.row(i))?;
         }
-        Ok(LookupSnap { rows })
+        let entries = rows.into_iter().collect(alloc)?;
+        Ok(LookupSnap { entries })
+    }
+
+    /// How many keys there are.
+    pub fn len(&self) -> usize
+        ensures { result ≡ length self.now }
+    {
+        self.entries.len()
+    }
+
+    /// Whether there is no key.
+    pub fn is_empty(&self) -> bool
+        ensures { IsTrue result ↔ (self.now ≡ []) }
+    {
+        self.entries.is_empty()
+    }
+
+    /// The entry at a place, a key and the values at it. The keys rise.
+    pub fn entry(&self, i: usize) -> &(Row, Row)
+        requires { i < length self.now }
+        ensures at { slice_get self.now i ≡ Some result.now }
+        ensures rising { IsRising self.now }
+    {
+        &self.entries[i]
     }
 
     /// The values at the key, or none where no such key is there.
@@ -83,13 +106,16 @@ impl LookupSnap {
         ensures value { option_copied result ≡ value_in self.now key.now }
         ensures rising { IsRising self.now }
     {
-        self.rows.get(key)
+        match self.entries.binary_search_by(|entry| entry.0.cmp(key)) {
+            Ok(place) => Some(&self.entries[place].1),
+            Err(_) => None,
+        }
     }
 
     /// Whether both have the same keys with the same values.
     pub fn same(&self, other: &LookupSnap) -> bool
         ensures { IsTrue result ↔ (self.now ≡ other.now) }
     {
-        self.rows == other.rows
+        self.entries == other.entries
     }
 }

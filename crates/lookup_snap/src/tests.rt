@@ -70,6 +70,15 @@ fn finds_and_compares(rt: HostRuntime) -> Result<(), Fail> {
         assert!(rt; snap.find(&one(alloc, Val::Int(number))?).is_none());
     }
     assert!(rt; snap.find(&one(alloc, Val::Null)?).is_none());
+    assert!(rt; snap.len() == 3 && !snap.is_empty());
+    for (i, number) in [-3, 7, 12].into_iter().enumerate() {
+        if i < snap.len() {
+            let (key, values) = snap.entry(i);
+            assert!(rt; key.vals() == [Val::Int(number)].as_slice());
+            assert!(rt; values.len() == 1);
+        }
+    }
+    assert!(rt; snap_of(alloc, &[(None, b"none")])?.is_empty());
     let again = snap_of(
         alloc,
         &[

@@ -1,4 +1,5 @@
-//! Measures: what the items of a group of rows come to, as their count or their sum.
+//! Measures: what the items of a group of rows come to: their count, their sum, the least or the greatest of them, or the
+//! set of the different ones.
 //!
 //! A bottom layer: it stands on `std` alone, and every crate that aggregates stands on it. The invariant at its
 //! boundary is the record of laws that each `Measure` proves: merging is associative and commutative, the measure of
@@ -9,12 +10,21 @@
 
 mod count;
 mod examples;
+mod id_set;
 mod laws;
+mod max;
 mod measure;
+mod min;
 mod sum;
 
 pub use count::Count;
-pub use examples::worked_examples;
+pub use examples::{examples_of_extremes_and_sets, worked_examples};
+pub use id_set::IdSet;
 pub use laws::laws_of_measure;
+pub use max::Max;
 pub use measure::{Measure, MeasureForm};
+pub use min::Min;
 pub use sum::Sum;
+
+#[cfg(test)]
+mod tests;

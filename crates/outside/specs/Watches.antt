@@ -1,5 +1,5 @@
 -- What a watch over files leaves as it was.
-use Rattle.std.specs.Prelude.{◌≡◌, ◌≤◌, ℕ, Bool, Option, Some, None, ⊤, IsTrue}
+use Rattle.std.specs.Prelude.{◌≡◌, ◌≤◌, ℕ, List, Bool, Option, Some, None, ⊤, IsTrue, is_some, option_map}
 use Rattle.outside.specs.Contents.{Paths}
 
 -- what files hold, where it is told, and their counts
@@ -24,3 +24,13 @@ KeepsHeld (Some old) (Some new) = Keeps old new
 abbrev pub HoldsIfTold : Option Bool → Type 0
 HoldsIfTold None = ⊤
 HoldsIfTold (Some there) = IsTrue there
+
+-- ---- over files
+
+-- what files with these contents and counts hold
+abbrev pub held_of : Option Paths → ℕ → ℕ → Held
+held_of contents faults write_faults = record { contents = contents; faults = faults; write_faults = write_faults }
+
+-- whether something stands at the path, where the contents are told
+abbrev pub there_at : Option Paths → List ℕ → Option Bool
+there_at contents path = option_map (λ paths. is_some (paths path)) contents

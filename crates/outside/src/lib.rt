@@ -13,6 +13,7 @@
 
 mod examples;
 mod fate;
+mod file_watch;
 mod files;
 mod hand;
 mod lying_hand;
@@ -31,6 +32,7 @@ mod work;
 
 pub use examples::worked_examples;
 pub use fate::{Fate, Fated};
+pub use file_watch::FileWatch;
 pub use files::{Entry, FileFault, Files};
 pub use hand::{Hand, HandFault, Honest};
 pub use lying_hand::LyingHand;

@@ -1,10 +1,13 @@
 // What no clause says: that each call is answered where memory is ample.
 
-ghost use Rattle.std.specs.Prelude.{◌<◌, length, drop};
+ghost use Rattle.std.specs.Prelude.{◌≡◌, ◌<◌, IsTrue, length, drop};
+ghost use Rattle.outside.specs.Counts.{Rose};
+ghost use Rattle.outside.specs.Watches.{KeepsHeld};
 
 use crate::{
-    Entry, Fate, Fated, FileFault, Files, Hand, HandFault, LyingHand, MemoryFiles, MemoryHand,
-    MemorySink, MemoryStopper, Sink, SinkFault, StepWork, StopFault, Stopper, Watch, WorkFault,
+    Entry, Fate, Fated, FileFault, FileWatch, Files, Hand, HandFault, LyingHand, MemoryFiles,
+    MemoryHand, MemorySink, MemoryStopper, Sink, SinkFault, StepWork, StopFault, Stopper, Watch,
+    WorkFault,
 };
 use std::alloc::{AllocError, Global};
 use std::sync::Wait;
@@ -53,6 +56,35 @@ fn files_answer_call_by_call(rt: HostRuntime) -> Result<(), AllocError> {
     assert_eq!(rt; files.write(alloc, "f.csv", b"new"), Err(FileFault::Failed));
     assert_eq!(rt; files.bytes_at("g.csv"), Some(b"new".as_slice()));
     assert_eq!(rt; files.bytes_at("f.csv"), Some(b"D1".as_slice()));
+    Ok(())
+}
+
+fn ask<W: Watch>(watch: &mut W) -> bool
+    ensures saw { IsTrue result → Rose (W.seen watch.old) (W.seen watch.new) }
+    ensures held { KeepsHeld (W.held watch.old) (W.held watch.new) }
+    ensures place { W.place watch.new ≡ W.place watch.old }
+{
+    watch.asked()
+}
+
+// Whether a stop is asked for at the path. Whoever lends the files knows what they hold afterwards.
+fn look<F: Files>(files: &mut F, path: &str) -> bool
+    ensures saw { IsTrue result → Rose (F.seen files.old) (F.seen files.new) }
+    ensures same { F.contents files.new ≡ F.contents files.old }
+    ensures write_faults { F.write_faults files.new ≡ F.write_faults files.old }
+{
+    let mut watch = FileWatch::new(files, path);
+    ask(&mut watch)
+}
+
+#[test]
+fn a_watch_sees_its_file(rt: HostRuntime) -> Result<(), AllocError> {
+    let alloc = rt.alloc();
+    let entries = vec![in alloc; entry(alloc, "job-1-1.stop", b"")?]?;
+    let mut files = MemoryFiles::new(entries, Vec::new(alloc));
+    for (path, there) in [("job-1-1.stop", true), ("job-1-2.stop", false)] {
+        assert_eq!(rt; look(&mut files, path), there, "{path}");
+    }
     Ok(())
 }
 

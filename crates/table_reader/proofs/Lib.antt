@@ -1,4 +1,5 @@
 pub mod ColumnFacts
+pub mod DigestFacts
 pub mod KeyFacts
 pub mod OutcomeFacts
 pub mod RecordFacts

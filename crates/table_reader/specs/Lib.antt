@@ -1,5 +1,6 @@
 pub mod Bodies
 pub mod Columns
+pub mod Digests
 pub mod Examples
 pub mod Faults
 pub mod Keys

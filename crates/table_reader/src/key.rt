@@ -11,6 +11,7 @@ ghost use Rattle.cube_val.specs.OrderLaws.{row_cmp_total};
 ghost use Rattle.cube_val.specs.declared.val.Val.{Val};
 ghost use Rattle.table_reader.specs.Keys.{AreWithin, HasDistinctKeys, Repeats, has_null, is_null, key_of, val_at};
 
+use crate::digest::digests_differ;
 use cube_val::{Row, Val, cmp};
 use std::alloc::{AllocError, Global};
 use std::cmp::Ordering;
@@ -163,6 +164,10 @@ pub fn first_repeated(
         × Repeats places.now (take i rows.now) (slice_index_or rows.now i []))) }
 {
     if places.is_empty() {
+        return Ok(None);
+    }
+    let differ = digests_differ(alloc, places, rows)?;
+    if differ {
         return Ok(None);
     }
     let mut keys = BTreeSet::new(alloc);

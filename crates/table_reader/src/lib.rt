@@ -11,11 +11,13 @@
 //!
 //! The way of the data: `records` (the bytes to records, one after another), `header` (the columns of the form in the
 //! first of them), `row` (a record to the row that it writes), `body` (the rows up to the end or the first record that is
-//! none), `key` (the first repeated key, found by the order of keys where the rows are) and `table` (the top call). Beside
-//! them `fault` has the faults, `laws` what holds of all files and `examples` the definitions on a few.
+//! none), `digest` (whether the digests of the keys, in order, all differ, so that no key is repeated), `key` (else the first
+//! repeated key, found by the order of keys where the rows are) and `table` (the top call). Beside them `fault` has the
+//! faults, `laws` what holds of all files and `examples` the definitions on a few.
 #![tactic(auto)]
 
 mod body;
+mod digest;
 mod examples;
 mod fault;
 mod header;

@@ -89,7 +89,7 @@ fn headers(rt: HostRuntime) -> Result<(), Fail> {
 
 #[test]
 fn rows(rt: HostRuntime) -> Result<(), Fail> {
-    let cases: [(&[u8], Result<usize, TableFault>); 16] = [
+    let cases: [(&[u8], Result<usize, TableFault>); 18] = [
         (
             b"name,n,amount,day\na,1,2.5,2012-02-29\r\n\n\"a\",2,3,\\N\r",
             Ok(2),
@@ -105,6 +105,14 @@ fn rows(rt: HostRuntime) -> Result<(), Fail> {
         (
             b"name,n,amount,day\na,1,1,2012-01-01,\n",
             fault(1, None, TableKind::FieldCount),
+        ),
+        (
+            b"name,n,amount,day\na,x,\\N\n",
+            fault(1, None, TableKind::FieldCount),
+        ),
+        (
+            b"name,n,amount,day\na,1,1,\\N\na,1,x,\\N\n",
+            fault(2, Some(2), TableKind::BadValue),
         ),
         (
             b"name,n,amount,day\na,x,\\N,2012-02-30\n",
@@ -226,6 +234,13 @@ fn too_many_rows(rt: HostRuntime) -> Result<(), Fail> {
         &rt,
         alloc,
         one_more.as_slice(),
+        fault(200_001, None, TableKind::TooManyRows),
+    )?;
+    let nothing_of_it = long_file(alloc, 200_000, b"a,7,\\N,2012-02-30\n".as_slice())?;
+    check(
+        &rt,
+        alloc,
+        nothing_of_it.as_slice(),
         fault(200_001, None, TableKind::TooManyRows),
     )?;
     let repeated = long_file(alloc, 199_999, b"a,7,1,\\N\nshort\n".as_slice())?;

@@ -1,4 +1,4 @@
-use Rattle.std.proofs.Common.{◌≡◌, ◌+◌, ◌++◌, ◌∷◌, List, [], take, sym, ap, subst, ◌∙◌, refl, Option, Some, arith}
+use Rattle.std.proofs.Common.{◌≡◌, ◌+◌, ◌++◌, ◌∷◌, List, [], take, sym, ap, subst, ◌∙◌, refl, Option, Some, arith, rules}
 use Rattle.std.specs.Prelude.{if◌then◌else◌}
 use Rattle.std.proofs.lemmas.List.{take_all, take_more}
 use Rattle.cube_val.specs.declared.val.Val.{Val}
@@ -32,5 +32,11 @@ loop-i-preserved c =
     )
 
 pub returns-clause-rows : goal.returns-clause-rows
-returns-clause-rows c = λ q.
-    c.loop-i.invariant.1 q ∙ ap (λ (rows : List (List Val)). values_for c.args.key.now c.args.cols.now rows q) (take_all c.loop-i.i c.args.table.now (omega arith))
+returns-clause-rows c =
+    let e : c.in_ok-entries.entries.items ≡ c.loop-i.rows.entries = search rules in
+    λ q. rw e (c.loop-i.invariant.1 q ∙ ap (λ (rows : List (List Val)). values_for c.args.key.now c.args.cols.now rows q) (take_all c.loop-i.i c.args.table.now (omega arith)))
+
+pub returns-clause-rising : goal.returns-clause-rising
+returns-clause-rising c =
+    let e : c.in_ok-entries.entries.items ≡ c.loop-i.rows.entries = search rules in
+    rw e c.loop-i.invariant.0

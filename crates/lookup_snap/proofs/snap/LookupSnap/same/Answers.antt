@@ -1,10 +1,10 @@
-use Rattle.std.proofs.Common.{◌≡◌, List, true, ap, refl}
+use Rattle.std.proofs.Common.{◌≡◌, ◌&&◌, List, Bool, true, false, ap, refl}
 use Rattle.std.specs.Bool.{Decides}
 use Rattle.std.specs.Ordering.{eq_by_cmp, is_eq}
 use Rattle.std.specs.declared.cmp.Ordering.{Ordering}
 use Rattle.std.specs.declared.cmp.Ordering.TheVariants.{Less, Equal, Greater}
 use Rattle.std.proofs.lemmas.Cmp.{tied_itself}
-use Rattle.std.proofs.lemmas.Map.Lookups.{btree_map_eq-Decides}
+use Rattle.std.proofs.lemmas.Slice.Eq.{slice_eq-Decides}
 use Rattle.cube_val.proofs.OrderFacts.{row_cmp_exact}
 use Rattle.cube_val.specs.Order.{row_cmp}
 use Rattle.cube_val.specs.OrderLaws.{row_cmp_total}
@@ -16,10 +16,26 @@ equal_from_is_eq Less h = cc h
 equal_from_is_eq Equal h = refl
 equal_from_is_eq Greater h = cc h
 
-row_decides : (a b : List Val) → Decides (eq_by_cmp row_cmp a b) (a ≡ b)
-row_decides a b = (λ e. row_cmp_exact a b (equal_from_is_eq (row_cmp a b) e), λ same. rw same (ap is_eq (tied_itself row_cmp_total b)))
+same_row : (a b : List Val) → eq_by_cmp row_cmp a b ≡ true → a ≡ b
+same_row a b e = row_cmp_exact a b (equal_from_is_eq (row_cmp a b) e)
+
+row_itself : (a : List Val) → eq_by_cmp row_cmp a a ≡ true
+row_itself a = ap is_eq (tied_itself row_cmp_total a)
+
+both_true : (s t : Bool) → (s && t) ≡ true → (s ≡ true) × (t ≡ true)
+both_true true true h = (refl, refl)
+both_true true false h = cc h
+both_true false t h = cc h
+
+entry_decides : (a b : List Val × List Val) → Decides (eq_by_cmp row_cmp a.0 b.0 && eq_by_cmp row_cmp a.1 b.1) (a ≡ b)
+entry_decides a b = (
+  λ e.
+      let both = both_true (eq_by_cmp row_cmp a.0 b.0) (eq_by_cmp row_cmp a.1 b.1) e in
+      rw (same_row a.0 b.0 both.0, same_row a.1 b.1 both.1) refl,
+  λ same. rw (same, row_itself b.0, row_itself b.1) refl,
+)
 
 pub returns : goal.returns
 returns c =
-    let told = btree_map_eq-Decides row_decides row_decides c.self.inside.rows c.other.inside.rows c.eq.result c.eq.ensures in
+    let told = slice_eq-Decides entry_decides c.self.inside.entries.items c.other.inside.entries.items c.eq.result c.eq.ensures in
     rw (c.self.view_is, c.other.view_is) at told

@@ -1,0 +1,112 @@
+// The command `fold`.
+
+ghost use Rattle.std.specs.Prelude.{◌≡◌, ◌≢◌, ◌⊎◌, ◌++◌, ◌∷◌, [], ℕ, List, IfOk, IsErrOf, codes};
+ghost use Rattle.cube_val.specs.declared.val.Val.{Val};
+ghost use Rattle.cubes_plain.specs.Files.{AcceptedAt, FaultyAt, TellsAcceptedAt, TellsFaultyAt, TellsLongerAt, TellsNothingAt, most_bytes};
+ghost use Rattle.cubes_plain.specs.Folds.{fold_text};
+ghost use Rattle.cubes_plain.specs.Outputs.{Appends, AppendsAll, bad_table_line, read_fault_line, too_large_line};
+ghost use Rattle.cubes_plain.specs.Tables.{IsFoldFault, IsFoldTable};
+ghost use Rattle.outside.specs.Contents.{IsLongerAt, IsNotLongerAt};
+ghost use Rattle.outside.specs.Counts.{Rose};
+ghost use Rattle.outside.specs.Written.{AppendsPart};
+ghost use Rattle.table_reader.specs.declared.fault.TableFault.{TableFault};
+
+use crate::fold::fold_text;
+use crate::output::{MOST_BYTES, finish, refuse, refuse_path};
+use crate::rows::{column_text, kind_text, read_rows};
+use crate::status::{BAD_TABLE, DONE, MEMORY, READ_FAULT, TOO_LARGE, WRITE_FAULT};
+use outside::{FileFault, Files, Sink};
+use std::alloc::Global;
+use table_reader::{TableFault, TableRefusal};
+
+// Why a command has no output.
+#[derive(Clone, Copy)]
+enum Fault {
+    Memory,
+    ReadFault,
+    TooLarge,
+    BadTable(TableFault),
+}
+
+// The text of `fold` over the bytes of a file.
+fn text_of_bytes(alloc: Global, bytes: &[u8]) -> Result<Vec<u8>, Fault>
+    ensures ok { IfOk result (λ text. (rows : List (List Val)) × IsFoldTable bytes.now rows × (text.items ≡ fold_text rows)) }
+    ensures bad { (f : TableFault) → result ≡ Err (Fault.BadTable f) → IsFoldFault bytes.now f }
+    ensures read { result ≢ Err Fault.ReadFault }
+    ensures large { result ≢ Err Fault.TooLarge }
+{
+    let rows = match read_rows(alloc, bytes) {
+        Ok(rows) => rows,
+        Err(TableRefusal::Fault(fault)) => return Err(Fault::BadTable(fault)),
+        Err(TableRefusal::Memory) => return Err(Fault::Memory),
+    };
+    match fold_text(alloc, &rows) {
+        Ok(text) => Ok(text),
+        Err(_) => Err(Fault::Memory),
+    }
+}
+
+// The text of `fold` over the file at the path.
+fn fold_output<F: Files>(alloc: Global, path: &str, files: &mut F) -> Result<Vec<u8>, Fault>
+    ensures ok { IfOk result (λ text. (rows : List (List Val)) × AcceptedAt (F.contents files.old) path.now rows × (text.items ≡ fold_text rows)) }
+    ensures read { IsErrOf result Fault.ReadFault → Rose (F.faults files.old) (F.faults files.new) }
+    ensures read_not_longer { IsErrOf result Fault.ReadFault → IsNotLongerAt (F.contents files.old) path.now most_bytes }
+    ensures large { IsErrOf result Fault.TooLarge → IsLongerAt (F.contents files.old) path.now most_bytes }
+    ensures bad { (f : TableFault) → result ≡ Err (Fault.BadTable f) → FaultyAt (F.contents files.old) path.now f }
+    ensures contents { F.contents files.new ≡ F.contents files.old }
+    ensures write_faults { F.write_faults files.new ≡ F.write_faults files.old }
+{
+    let bytes = match files.read(alloc, path, MOST_BYTES) {
+        Ok(bytes) => bytes,
+        Err(FileFault::Failed) => return Err(Fault::ReadFault),
+        Err(FileFault::TooLong) => return Err(Fault::TooLarge),
+        Err(FileFault::Memory) => return Err(Fault::Memory),
+    };
+    text_of_bytes(alloc, bytes.as_slice())
+}
+
+// Writes the fault line of a table, and says the status.
+fn refuse_table<S: Sink>(alloc: Global, sink: &mut S, path: &str, fault: TableFault) -> u8
+    ensures status { (result ≡ BAD_TABLE) ⊎ (result ≡ MEMORY) }
+    ensures line { result ≡ BAD_TABLE → Appends (S.faults sink.old) (S.faults sink.new) (S.written sink.old) (S.written sink.new) (bad_table_line path.now fault) }
+    ensures memory { result ≡ MEMORY → S.written sink.new ≡ S.written sink.old }
+{
+    let row = fault.row;
+    let column = column_text(fault.column);
+    let kind = kind_text(fault.kind);
+    match format!(in alloc; "fault: BadTable {path} {row} {column} {kind}\n") {
+        Ok(line) => refuse(sink, line.as_bytes(), BAD_TABLE),
+        Err(_) => MEMORY,
+    }
+}
+
+/// Writes the counts and sums of the table at the path, and says the status. A fault is answered as every command
+/// answers it; want of memory is free.
+pub fn run_fold<F: Files, S: Sink>(alloc: Global, path: &str, files: &mut F, sink: &mut S) -> u8
+    ensures status { (result ≡ DONE) ⊎ (result ≡ MEMORY) ⊎ (result ≡ READ_FAULT) ⊎ (result ≡ WRITE_FAULT) ⊎ (result ≡ BAD_TABLE) ⊎ (result ≡ TOO_LARGE) }
+    ensures done { result ≡ DONE → (rows : List (List Val)) × AcceptedAt (F.contents files.old) path.now rows × AppendsAll (S.written sink.old) (S.written sink.new) (fold_text rows) }
+    ensures memory { result ≡ MEMORY → S.written sink.new ≡ S.written sink.old }
+    ensures read_fault { result ≡ READ_FAULT → Rose (F.faults files.old) (F.faults files.new) }
+    ensures read_fault_line { result ≡ READ_FAULT → Appends (S.faults sink.old) (S.faults sink.new) (S.written sink.old) (S.written sink.new) (read_fault_line path.now) }
+    ensures nothing_there { TellsNothingAt (F.contents files.old) path.now → (result ≡ READ_FAULT) ⊎ (result ≡ MEMORY) }
+    ensures write_fault { result ≡ WRITE_FAULT → Rose (S.faults sink.old) (S.faults sink.new) }
+    ensures write_fault_part { result ≡ WRITE_FAULT → (rows : List (List Val)) × AcceptedAt (F.contents files.old) path.now rows × AppendsPart (S.written sink.old) (S.written sink.new) (fold_text rows) }
+    ensures bad_table { result ≡ BAD_TABLE → (fault : TableFault) × FaultyAt (F.contents files.old) path.now fault
+        × Appends (S.faults sink.old) (S.faults sink.new) (S.written sink.old) (S.written sink.new) (bad_table_line path.now fault) }
+    ensures faulty { (fault : TableFault) → TellsFaultyAt (F.contents files.old) path.now fault → (result ≡ BAD_TABLE) ⊎ (result ≡ READ_FAULT) ⊎ (result ≡ MEMORY) }
+    ensures too_large { result ≡ TOO_LARGE → IsLongerAt (F.contents files.old) path.now most_bytes
+        × Appends (S.faults sink.old) (S.faults sink.new) (S.written sink.old) (S.written sink.new) (too_large_line path.now) }
+    ensures longer { TellsLongerAt (F.contents files.old) path.now → (result ≡ TOO_LARGE) ⊎ (result ≡ MEMORY) }
+    ensures complete { (rows : List (List Val)) → TellsAcceptedAt (F.contents files.old) path.now rows
+        → ¬ (Rose (F.faults files.old) (F.faults files.new)) → ¬ (Rose (S.faults sink.old) (S.faults sink.new)) → (result ≡ DONE) ⊎ (result ≡ MEMORY) }
+    ensures contents { F.contents files.new ≡ F.contents files.old }
+    ensures write_faults { F.write_faults files.new ≡ F.write_faults files.old }
+{
+    match fold_output(alloc, path, files) {
+        Ok(text) => finish(sink, text.as_slice()),
+        Err(Fault::Memory) => MEMORY,
+        Err(Fault::ReadFault) => refuse_path(alloc, sink, "ReadFault", path, READ_FAULT),
+        Err(Fault::TooLarge) => refuse_path(alloc, sink, "TooLarge", path, TOO_LARGE),
+        Err(Fault::BadTable(fault)) => refuse_table(alloc, sink, path, fault),
+    }
+}

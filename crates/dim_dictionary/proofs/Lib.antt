@@ -1,0 +1,2 @@
+pub mod DictLemmas
+pub mod MergeLemmas

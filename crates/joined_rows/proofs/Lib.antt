@@ -1,0 +1,2 @@
+pub mod FitFacts
+pub mod JoinFacts

@@ -1,0 +1,4 @@
+pub mod Asks
+pub mod Bounds
+pub mod Needs
+pub mod Titles
