@@ -1,32 +1,32 @@
 -- What each call adds to a board.
-use Rattle.std.proofs.Common.{◌≡◌, ℕ, ◌+◌, ◌<◌, ◌≤◌, ◌^◌, true, List, [], ◌∷◌, ◌++◌, Option, Some, None, length, slice_get, vec_len, All, refl, sym, ap, ◌∙◌, subst, arith}
+use Rattle.std.proofs.Common.{◌≡◌, ℕ, ◌+◌, ◌<◌, ◌≤◌, ◌^◌, true, List, [], ◌∷◌, ◌++◌, Some, None, length, slice_get, vec_len, All, refl, sym, ap, ◌∙◌, subst, arith}
 use Rattle.std.specs.Prelude.{◌==◌, find}
 use Rattle.std.specs.List.{list_any}
 use Rattle.fixed_cube.specs.Answers.{by_first}
 use Rattle.fixed_cube.specs.Columns.{fact_columns, row_limit}
 use Rattle.fixed_cube.specs.Cube.{fixed}
 use Rattle.fixed_state.specs.Ends.{world_ended}
-use Rattle.fixed_state.specs.Kept.{AreKept, IsFixedState, IsLoaded}
+use Rattle.fixed_state.specs.Kept.{AreKept, IsFixedState}
 use Rattle.fixed_state.specs.States.{FixedState, StandsFor, rows_seen}
 use Rattle.fixed_state.proofs.EndFacts.{kept_again}
 use Rattle.fixed_state.proofs.Events.{kept_ask, kept_claimed, kept_line, kept_load, kept_query_end, kept_steer, kept_submit, kept_taken}
 use Rattle.job_board.specs.Boards.{IsBoard}
 use Rattle.job_board.specs.Ledger.{Ledger, now}
-use Rattle.job_board.specs.Turns.{IsRecorded, turn_of}
+use Rattle.job_board.specs.Turns.{IsRecorded}
 use Rattle.job_board.specs.declared.turn.BoardTurn.TheVariants as turn
 use Rattle.job_board.specs.declared.turn.Log.{Log}
 use Rattle.job_machine.specs.declared.state.JobKind.TheVariants.{Build}
 use Rattle.plain_answer.specs.declared.ask.Ask.{Ask as Query}
 use Rattle.range_list.specs.Ranges.{Interval}
 use Rattle.run_history.specs.Bounds.{AreAtMost}
-use Rattle.run_history.specs.Commands.Command.{Load, Submit, Steer, Ask, Note}
-use Rattle.run_history.specs.Commands.Turn.{Takes, Claims, StepEnds, QueryTakes, QueryEnds}
+use Rattle.run_history.specs.Commands.Command.{Load, Submit, Steer, Ask}
+use Rattle.run_history.specs.Commands.Turn.{QueryEnds}
 use Rattle.run_history.specs.Cubes.{Rows}
 use Rattle.run_history.specs.Histories.{IsFresh, IsInFlight, IsNextAttempt, IsNextOfSession, MayNote, claim_count}
 use Rattle.run_history.specs.Invariants.{IsSound}
-use Rattle.run_history.specs.Steps.{accepted, by_verdict, claimed, query_ended, query_taken, step, submitted}
+use Rattle.run_history.specs.Steps.{accepted, by_verdict, claimed, query_ended, query_taken, submitted}
 use Rattle.run_history.specs.Verdicts.{most_segments, steer_refusal, verdict}
-use Rattle.run_history.specs.World.{World, busy, job_of, number}
+use Rattle.run_history.specs.World.{World, busy, job_of}
 use Rattle.run_history.specs.declared.command.Control.{Control}
 use Rattle.run_history.specs.declared.command.Noted.{Noted}
 use Rattle.run_history.specs.declared.event.Outcome.{Outcome}

@@ -1,25 +1,21 @@
 -- What the calls ask of a state, from what a board has of its history.
-use Rattle.std.proofs.Common.{◌≡◌, ℕ, zero, suc, ◌+◌, ◌-◌, ◌<◌, ◌≤◌, ◌^◌, Bool, true, false, cond, not, ◌==◌, Option, Some, None, List, [], ◌∷◌, ◌++◌, length, map, slice_get, unwrap_or, All, refl, sym, ap, ◌∙◌, subst, arith}
+use Rattle.std.proofs.Common.{◌≡◌, ℕ, zero, suc, ◌+◌, ◌<◌, ◌≤◌, ◌^◌, true, ◌==◌, Some, List, [], ◌∷◌, length, slice_get, All, refl, sym, ap, ◌∙◌, arith}
 use Rattle.std.proofs.lemmas.List.{length-map}
-use Rattle.std.specs.Prelude.{find, option_map, slice_index_or}
+use Rattle.std.specs.Prelude.{option_map, slice_index_or}
 use Rattle.std.proofs.lemmas.Option.{slice_get-map}
 use Rattle.std.specs.List.{list_any}
 use Rattle.fixed_cube.specs.Cube.{fixed}
-use Rattle.fixed_state.specs.Kept.{AreKept, IsLoaded}
-use Rattle.fixed_state.specs.States.{FixedEntry, FixedState, StandsFor, rows_seen}
+use Rattle.fixed_state.specs.Kept.{IsLoaded}
+use Rattle.fixed_state.specs.States.{FixedState, StandsFor, rows_seen}
 use Rattle.plain_answer.specs.declared.ask.Ask.{Ask as Query}
 use Rattle.run_history.specs.Bounds.{AreAtMost}
-use Rattle.run_history.specs.Cubes.{Rows}
 use Rattle.run_history.specs.Histories.{IsInFlight}
 use Rattle.run_history.specs.Invariants.{IsSound}
-use Rattle.run_history.specs.Sets.{Segment}
 use Rattle.run_history.specs.Verdicts.{most_segments}
-use Rattle.run_history.specs.World.{Asked, Submitted, World, busy, job_at, job_of}
-use Rattle.run_state.specs.States.{Place, claim_of, in_flight_of, place_kept, place_of, submitted_of}
-use Rattle.run_state.specs.declared.parts.Claim.{Claim}
+use Rattle.run_history.specs.World.{Submitted, World, busy, job_at}
+use Rattle.run_state.specs.States.{claim_of, in_flight_of, place_kept, place_of, submitted_of}
 use Rattle.run_state.specs.declared.parts.QueryInFlight.{QueryInFlight}
-use Rattle.run_state.specs.declared.parts.ReadySegment.{ReadySegment}
-use Rattle.run_state.proofs.Lists.{any_map, find_map}
+use Rattle.run_state.proofs.Lists.{any_map}
 
 get_at : {X : Type 0} (xs : List X) (k : ℕ) (d : X) → k < length xs → slice_get xs k ≡ Some (slice_index_or xs k d)
 get_at [] k d h = absurd (omega (arith, h))

@@ -1,9 +1,9 @@
 -- The first job of the queue, and the task of its next step.
-use Rattle.std.proofs.Common.{◌≡◌, ℕ, zero, suc, ◌+◌, ◌-◌, ◌<◌, ◌≤◌, Bool, true, false, not, Option, Some, None, List, [], ◌∷◌, length, map, slice_get, unwrap_or, refl, sym, ap, ◌∙◌, subst, arith}
+use Rattle.std.proofs.Common.{◌≡◌, ℕ, ◌<◌, ◌≤◌, Bool, true, false, Option, Some, None, List, length, slice_get, refl, sym, ap, ◌∙◌, subst, arith}
 use Rattle.std.specs.Prelude.{option_map}
-use Rattle.std.specs.Option.{ForSome, IsSome}
+use Rattle.std.specs.Option.{IsSome}
 use Rattle.fixed_cube.specs.Columns.{row_limit}
-use Rattle.fixed_cube.specs.Cube.{FitsSnapshot, fact_rows, fixed, job_task}
+use Rattle.fixed_cube.specs.Cube.{FitsSnapshot, fact_rows, fixed}
 use Rattle.fixed_cube.specs.Tasks.{IsTask}
 use Rattle.fixed_cube.proofs.JobFacts.{has_task}
 use Rattle.fixed_state.specs.Ends.{kept_of}
@@ -14,15 +14,15 @@ use Rattle.fixed_state.proofs.EndFacts.{job_there, kept_at}
 use Rattle.fixed_state.proofs.Events.{kept_of_job}
 use Rattle.fixed_state.proofs.Jobs.{fits_tables}
 use Rattle.fixed_state.proofs.TaskFacts.{next_of_build, task_is}
-use Rattle.job_machine.specs.Job.{JobRecord, is_claimable, waits_in}
+use Rattle.job_machine.specs.Job.{waits_in}
 use Rattle.job_machine.specs.declared.state.JobState.{JobState}
 use Rattle.job_machine.specs.declared.state.JobState.TheVariants.{Pending, Running, Error, Stopped, Discarded, Finished}
 use Rattle.plain_answer.specs.declared.ask.Ask.{Ask as Query}
 use Rattle.run_history.specs.Cubes.{Rows}
 use Rattle.run_history.specs.Invariants.{IsSound}
-use Rattle.run_history.specs.World.{Submitted, World, in_force, is_live, job_at, job_of, next_task}
-use Rattle.run_state.specs.Orders.{IsQueued, data_of, is_claimable_at, products_of}
-use Rattle.run_state.specs.States.{entry_at, snapshot_of, submitted_of}
+use Rattle.run_history.specs.World.{Submitted, World, is_live, job_at, job_of, next_task}
+use Rattle.run_state.specs.Orders.{data_of, is_claimable_at, products_of}
+use Rattle.run_state.specs.States.{entry_at, submitted_of}
 use Rattle.run_state.proofs.SoundStates.{queued}
 use Rattle.run_state.proofs.Turns.{has_first, job_by_entry}
 

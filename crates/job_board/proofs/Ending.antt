@@ -1,26 +1,25 @@
 -- What is recorded of the ends of steps.
-use Rattle.std.proofs.Common.{◌≡◌, ℕ, zero, suc, ◌+◌, ◌<◌, ◌≤◌, Bool, true, false, Option, Some, None, Result, Ok, Err, List, [], ◌∷◌, length, map, slice_get, unwrap_or, refl, sym, ap, ◌∙◌, subst, arith}
+use Rattle.std.proofs.Common.{◌≡◌, ℕ, Bool, true, false, Option, Some, None, Ok, Err, List, refl, sym, ap, ◌∙◌, subst}
 use Rattle.std.specs.Prelude.{option_map}
-use Rattle.fixed_cube.specs.Cube.{FitsSnapshot, fixed, job_task}
+use Rattle.fixed_cube.specs.Cube.{fixed, job_task}
 use Rattle.fixed_cube.specs.Tasks.{is_product, product_of}
 use Rattle.fixed_cube.proofs.JobFacts.{has_product}
-use Rattle.fixed_state.specs.Ends.{Answer, IsJudged, IsOutcomeOf, IsProductOf, ended_at, kept_of, outcome_of, products_after, stale_outcome}
-use Rattle.fixed_state.specs.Kept.{AreKept, IsKept}
+use Rattle.fixed_state.specs.Ends.{Answer, IsJudged, IsOutcomeOf, IsProductOf, ended_at, kept_of, outcome_of, stale_outcome}
+use Rattle.fixed_state.specs.Kept.{AreKept}
 use Rattle.fixed_state.specs.States.{FixedEntry, FixedState, StandsFor, rows_seen}
 use Rattle.fixed_state.specs.Tasks.{snapshot_now, task_kept}
 use Rattle.fixed_state.proofs.Jobs.{fits_tables}
 use Rattle.fixed_state.proofs.TaskFacts.{next_of_build, task_is}
 use Rattle.job_board.specs.Ledger.{IsCountedAs, IsRecordedAs, ended_of}
 use Rattle.job_machine.specs.Job.{is_current}
-use Rattle.job_machine.specs.declared.state.Ended.{Ended}
 use Rattle.outside.specs.declared.hand.HandFault.{HandFault}
 use Rattle.outside.specs.declared.hand.HandFault.TheVariants as fault
 use Rattle.plain_answer.specs.declared.ask.Ask.{Ask as Query}
 use Rattle.run_history.specs.Cubes.{Snapshot}
 use Rattle.run_history.specs.Invariants.{IsSound}
-use Rattle.run_history.specs.World.{Submitted, World, is_live, job_of, next_task}
+use Rattle.run_history.specs.World.{Submitted, World, job_of, next_task}
 use Rattle.run_history.specs.declared.event.Outcome.{Outcome}
-use Rattle.run_history.specs.declared.event.Outcome.TheVariants.{Damaged, Done}
+use Rattle.run_history.specs.declared.event.Outcome.TheVariants.{Damaged}
 use Rattle.run_history.proofs.Jobs.{current_counts, running_live}
 use Rattle.run_state.specs.Orders.{data_of, is_current_at, products_of}
 use Rattle.run_state.specs.States.{entry_at, submitted_of}

@@ -1,6 +1,6 @@
 -- The next query, and the cells over which it is answered.
 use Rattle.std.proofs.Common.{◌≡◌, ℕ, zero, suc, ◌+◌, ◌<◌, ◌≤◌, ◌↔◌, ◌⊎◌, inl, inr, Bool, true, false, cond, not, ◌==◌, ◌&&◌, ◌||◌, Option, Some, None, List, [], ◌∷◌, length, map, drop, get_or, slice_get, refl, sym, ap, ◌∙◌, subst, arith}
-use Rattle.std.specs.Prelude.{count_by, find, is_some, option_map, position}
+use Rattle.std.specs.Prelude.{find, is_some, option_map, position}
 use Rattle.std.specs.List.{AllByRecursion, list_any, position_or_len}
 use Rattle.std.proofs.lemmas.Bool.{eq-eqb, ne_eqb}
 use Rattle.std.proofs.lemmas.List.Quantifiers.{position-Some}
@@ -8,14 +8,14 @@ use Rattle.std.proofs.lemmas.List.Sums.{sum_by-cons}
 use Rattle.byte_frame.specs.Spelling.{EachFits}
 use Rattle.fixed_cube.specs.Answers.{by_first}
 use Rattle.fixed_cube.specs.Cells.{Cell}
-use Rattle.fixed_cube.specs.Cube.{FitsSnapshot, fixed}
+use Rattle.fixed_cube.specs.Cube.{FitsSnapshot}
 use Rattle.fixed_state.specs.Kept.{AreKept, IsReadyKept}
 use Rattle.fixed_state.specs.Ready.{AreCellsOf, base_of_segment}
-use Rattle.fixed_state.specs.States.{FixedState, StandsFor, rows_seen}
+use Rattle.fixed_state.specs.States.{FixedState, StandsFor}
 use Rattle.job_board.specs.Ledger.{is_free, next_query}
 use Rattle.plain_answer.specs.declared.ask.Ask.{Ask as Query}
 use Rattle.run_history.specs.Histories.{IsFresh, IsInFlight, IsLawful, claim_count}
-use Rattle.run_history.specs.Sets.{ReadySet, Segment}
+use Rattle.run_history.specs.Sets.{ReadySet}
 use Rattle.run_history.specs.Commands.Turn.{QueryEnds}
 use Rattle.run_history.specs.World.{Asked, Waiting, World, number}
 use Rattle.run_history.specs.declared.event.QueryOut.{QueryOut}
@@ -23,7 +23,6 @@ use Rattle.run_history.specs.declared.event.QueryOut.TheVariants.{Answered, Memo
 use Rattle.run_history.proofs.Lists.{cond_at_false, cond_at_true}
 use Rattle.run_state.specs.Orders.{IsOrderly, data_of, is_asking, products_of}
 use Rattle.run_state.specs.States.{answered_in, claim_of, in_flight_of, waiting_of}
-use Rattle.run_state.specs.declared.parts.Claim.{Claim}
 use Rattle.run_state.specs.declared.parts.QueryInFlight.{QueryInFlight}
 use Rattle.run_state.specs.declared.parts.Session.{Session}
 use Rattle.run_state.specs.declared.parts.WaitingQuery.{WaitingQuery}

@@ -1,7 +1,6 @@
 -- One turn more, and what a board has of its history.
-use Rattle.std.proofs.Common.{◌≡◌, ℕ, zero, suc, ◌+◌, ◌-◌, ◌<◌, ◌≤◌, ◌^◌, Bool, true, false, cond, not, ◌==◌, Option, Some, None, List, [], ◌∷◌, ◌++◌, length, map, slice_get, unwrap_or, vec_capacity, vec_len, refl, sym, ap, ◌∙◌, subst, arith}
+use Rattle.std.proofs.Common.{◌≡◌, ℕ, ◌<◌, Option, Some, None, List, [], ◌∷◌, ◌++◌, length, map, vec_capacity, vec_len, refl, sym, ap, ◌∙◌, subst, arith}
 use Rattle.std.proofs.lemmas.List.{map-append, length-map}
-use Rattle.std.specs.Prelude.{find, option_map}
 use Rattle.fixed_cube.specs.Cube.{fixed}
 use Rattle.fixed_state.specs.Kept.{AreKept, IsFixedState}
 use Rattle.fixed_state.specs.States.{FixedState, StandsFor}
@@ -9,19 +8,18 @@ use Rattle.job_board.specs.Boards.{IsBoard}
 use Rattle.job_board.specs.Turns.{IsLog, IsRecorded, turn_of, turns_of}
 use Rattle.job_board.specs.declared.turn.BoardTurn.{BoardTurn}
 use Rattle.job_board.specs.declared.turn.Log.{Log}
-use Rattle.job_machine.specs.declared.state.JobKind.{JobKind}
 use Rattle.job_machine.specs.declared.state.JobKind.TheVariants.{Build}
 use Rattle.plain_answer.specs.declared.ask.Ask.{Ask as Query}
 use Rattle.range_list.specs.Ranges.{Interval}
 use Rattle.run_history.specs.Bounds.{AreAtMost}
 use Rattle.run_history.specs.Commands.{Turn, event_of}
-use Rattle.run_history.specs.Commands.Command.{Load, Submit, Steer, Ask, Note}
+use Rattle.run_history.specs.Commands.Command.{Submit, Note}
 use Rattle.run_history.specs.Commands.Turn.{Takes}
 use Rattle.run_history.specs.Histories.{Allowed, HasFreshAnswers, IsFresh, IsLegal}
 use Rattle.run_history.specs.Invariants.{AreClaims, HasSteps, IsSound}
 use Rattle.run_history.specs.Steps.{by_verdict, step, submitted, world}
 use Rattle.run_history.specs.Verdicts.{await_refusal, verdict}
-use Rattle.run_history.specs.World.{Submitted, World, job_of, start}
+use Rattle.run_history.specs.World.{World, job_of, start}
 use Rattle.run_history.specs.declared.command.Noted.{Noted}
 use Rattle.run_history.specs.declared.command.Noted.TheVariants.{AwaitJob, AwaitJobs, AwaitQueries, Other}
 use Rattle.run_history.specs.declared.event.Event.{Event}

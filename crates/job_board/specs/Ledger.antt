@@ -1,5 +1,5 @@
 -- What a board is to its callers.
-use Rattle.std.specs.Prelude.{◌≡◌, ℕ, Bool, true, false, not, ◌&&◌, ◌==◌, List, [], ◌∷◌, ◌++◌, Option, Some, None, Result, Ok, Err, find, map, option_map}
+use Rattle.std.specs.Prelude.{◌≡◌, ℕ, Bool, true, false, not, ◌==◌, List, [], ◌∷◌, ◌++◌, Option, Some, None, find}
 use Rattle.std.specs.List.{list_any}
 use Rattle.fixed_cube.specs.Cube.{fixed}
 use Rattle.fixed_state.specs.Ends.{Answer, IsOutcomeOf, stale_outcome}

@@ -1,5 +1,5 @@
 -- The turns of a board, and the log of them.
-use Rattle.std.specs.Prelude.{◌≡◌, ◌≤◌, ◌<◌, ◌+◌, ℕ, List, [], ◌∷◌, ◌++◌, map, vec_capacity, vec_len}
+use Rattle.std.specs.Prelude.{◌≡◌, ◌≤◌, ◌+◌, ℕ, List, [], ◌∷◌, ◌++◌, map, vec_capacity, vec_len}
 use Rattle.fixed_cube.specs.Answers.{by_first}
 use Rattle.job_board.specs.declared.turn.BoardTurn.{BoardTurn}
 use Rattle.job_board.specs.declared.turn.BoardTurn.TheVariants as turn

@@ -1,4 +1,4 @@
-use Rattle.std.proofs.Common.{◌≡◌, ℕ, List, ◌∙◌, ap, arith, sym}
+use Rattle.std.proofs.Common.{ℕ, List, ◌∙◌, ap, arith, sym}
 use Rattle.job_machine.specs.declared.state.JobKind.TheVariants.{Build}
 use Rattle.run_history.specs.Commands.Command.{Submit}
 use Rattle.run_history.specs.Verdicts.{verdict}
