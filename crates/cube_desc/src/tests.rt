@@ -271,6 +271,10 @@ fn each_fault_and_its_place(rt: HostRuntime) -> Result<(), Fail> {
     let wide = with_quotes(alloc, WIDE)?;
     let got = answer(alloc, wide.as_bytes())?;
     assert_eq!(rt; got.as_str(), "TooManyCuboids /aggregation_groups");
+    let grouped = changed(alloc, WIDE, "'F.K']}]", "'F.K']},{'includes':[]}]")?;
+    let grouped = with_quotes(alloc, grouped.as_str())?;
+    let got = answer(alloc, grouped.as_bytes())?;
+    assert_eq!(rt; got.as_str(), "BadGroup /aggregation_groups/1");
     assert_eq!(rt; answer(alloc, b"{\"name\":\"\xff\"}")?.as_str(), "NotJson");
     assert_eq!(rt; answer(alloc, &[b'['; 200])?.as_str(), "NotJson");
     Ok(())
