@@ -8,7 +8,7 @@ import time
 from dataclasses import dataclass
 
 HERE = os.path.dirname(os.path.abspath(__file__))
-REPEATS = 5
+REPEATS = 9
 
 
 @dataclass
@@ -33,10 +33,20 @@ def run(words, input_file=None):
 
 def fastest(words, repeats):
     """The fastest of some runs, which must all write the same."""
-    runs = [run(words) for _ in range(repeats)]
-    if any(other.output != runs[0].output for other in runs):
-        raise SystemExit(f"{words[0]} wrote different outputs")
-    return min(runs, key=lambda one: one.seconds)
+    (one,) = fastest_of_each([words], repeats)
+    return one
+
+
+def fastest_of_each(commands, repeats):
+    """The fastest of some runs of each command, which must all write the same. The commands take turns, so that other work on
+    the machine meets them alike."""
+    rounds = [[run(words) for words in commands] for _ in range(repeats)]
+    fastest_runs = []
+    for words, runs in zip(commands, zip(*rounds)):
+        if any(other.output != runs[0].output for other in runs):
+            raise SystemExit(f"{words[0]} wrote different outputs")
+        fastest_runs.append(min(runs, key=lambda one: one.seconds))
+    return fastest_runs
 
 
 def megabytes(count):
@@ -55,12 +65,11 @@ def compare(table_script, ours, yardstick):
         table = os.path.join(folder, "table.csv")
         subprocess.run([sys.executable, os.path.join(HERE, table_script), table, str(rows)], check=True)
         size = os.path.getsize(table)
-        runs = [(name, fastest([*words, table], REPEATS)) for name, words in (ours, yardstick)]
-    (_, one), (_, other) = runs
+        one, other = fastest_of_each([[*words, table] for _, words in (ours, yardstick)], REPEATS)
     if one.output != other.output:
         raise SystemExit("the two outputs differ")
     print(f"{'rows':<15} {rows} ({megabytes(size)})")
-    for name, taken in runs:
+    for name, taken in ((ours[0], one), (yardstick[0], other)):
         print(f"{name:<15} {taken.seconds:.3f} s, peak {megabytes(taken.peak_bytes)}")
     print(f"{'time ratio':<15} {one.seconds / other.seconds:.2f}")
     print(f"{'memory / file':<15} {one.peak_bytes / size:.1f}")

@@ -10,6 +10,7 @@ ghost use lib.Pointwise.{pointwise};
 ghost use Rattle.cube_val.specs.Texts.{IsText};
 
 use crate::val::ReadVal;
+use smallvec::SmallVec;
 use std::alloc::{AllocError, Global};
 use std::cmp::Ordering;
 use std::marker::Model;
@@ -17,22 +18,24 @@ use std::marker::Model;
 /// The greatest number of bytes of a text.
 pub const TEXT_MAX: usize = 255;
 
+/// The number of bytes of a text that are kept without an allocation: a date's ten, and most names of things.
+const INLINE: usize = 16;
+
 /// A text of at most 255 bytes of UTF-8.
 #[derive(Debug, Drop)]
 pub struct TextVal {
-    text: String,
+    bytes: SmallVec<u8, INLINE>,
 }
 
 impl Model for TextVal {
     ghost use Rattle.std.specs.Prelude.{ℕ, List};
-    ghost use Rattle.std.specs.String.{string_bytes};
     ghost use Rattle.cube_val.specs.Texts.{IsText};
 
     ghost Value = { List ℕ };
 
-    ghost view = { λ t. string_bytes t.text };
+    ghost view = { λ t. t.bytes.items };
 
-    ghost invariant = { λ t. IsText (string_bytes t.text) };
+    ghost invariant = { λ t. IsText t.bytes.items };
 }
 
 impl TextVal {
@@ -45,11 +48,11 @@ impl TextVal {
         if bytes.len() > TEXT_MAX {
             return Err(ReadVal::BadValue);
         }
-        let Ok(text) = str::from_utf8(bytes) else {
+        if str::from_utf8(bytes).is_err() {
             return Err(ReadVal::BadValue);
-        };
-        match String::from_str(alloc, text) {
-            Ok(text) => Ok(TextVal { text }),
+        }
+        match SmallVec::from_slice(alloc, bytes) {
+            Ok(bytes) => Ok(TextVal { bytes }),
             Err(_) => Err(ReadVal::Memory),
         }
     }
@@ -59,15 +62,15 @@ impl TextVal {
         ensures bytes { result.now ≡ self.now }
         ensures is_text { IsText result.now }
     {
-        self.text.as_bytes()
+        self.bytes.as_slice()
     }
 
     /// An equal text.
     pub fn copy(&self) -> Result<TextVal, AllocError>
         ensures { IfOk result (λ text. text ≡ self.now) }
     {
-        let text = self.text.clone()?;
-        Ok(TextVal { text })
+        let bytes = self.bytes.clone()?;
+        Ok(TextVal { bytes })
     }
 }
 
