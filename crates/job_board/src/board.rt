@@ -16,10 +16,10 @@ ghost use Rattle.job_machine.specs.declared.state.JobKind.TheVariants.{Build};
 ghost use Rattle.run_history.specs.Commands.{event_of};
 ghost use Rattle.run_history.specs.Commands.Command.{Ask, Load, Note, Steer, Submit};
 ghost use Rattle.run_history.specs.Commands.Turn.{Claims, QueryEnds, QueryTakes, StepEnds, Takes};
-ghost use Rattle.run_history.specs.Histories.{HasFreshAnswers, IsFresh, IsInFlight, IsLawful, IsLegal, IsNextAttempt, IsNextOfSession, MayNote, claim_count, is_settled};
+ghost use Rattle.run_history.specs.Histories.{AreAtRest, HasFreshAnswers, IsFresh, IsInFlight, IsLawful, IsLegal, IsNextAttempt, IsNextOfSession, MayNote, claim_count, is_settled};
 ghost use Rattle.run_history.specs.Invariants.{IsSound};
 ghost use Rattle.run_history.specs.Steps.{end_by};
-ghost use Rattle.run_history.specs.Verdicts.{verdict};
+ghost use Rattle.run_history.specs.Verdicts.{most_segments, verdict};
 ghost use Rattle.run_history.specs.World.{Submitted, Waiting, Asked, busy, job_of, next_task, number};
 ghost use Rattle.run_history.specs.declared.event.Outcome.{Outcome};
 ghost use Rattle.run_history.specs.declared.event.Outcome.TheVariants.{Damaged};
@@ -497,7 +497,11 @@ impl<H: Honest> Board<H> {
 
     /// The jobs by number, the first of which is job 1.
     pub fn jobs(&self) -> &[JobEntry<SharedTable, KeptProduct>]
-        ensures { map (submitted_of rows_seen) result.now ≡ (now self.now).jobs }
+        ensures jobs { map (submitted_of rows_seen) result.now ≡ (now self.now).jobs }
+        ensures few { length result.now ≤ 4_000_000_000 }
+
+        // A job that is PENDING or RUNNING waits in the queue, or its last claim is in flight.
+        ensures rest { (now self.now).queue ≡ [] → (now self.now).steps ≡ [] → AreAtRest (now self.now).jobs }
     {
         &self.state.jobs
     }
@@ -516,7 +520,8 @@ impl<H: Honest> Board<H> {
 
     /// The ready segments, in rising order of their ranges.
     pub fn ready(&self) -> &[ReadySegment<SharedCells>]
-        ensures { map place_kept result.now ≡ map place_of (now self.now).ready }
+        ensures ready { map place_kept result.now ≡ map place_of (now self.now).ready }
+        ensures few { length result.now ≤ most_segments }
     {
         &self.state.segments
     }
