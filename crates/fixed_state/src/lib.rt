@@ -9,11 +9,13 @@
 //! - [`kept_by_turns`]: what is kept belongs to the world after every other turn too.
 //! - [`ReadyCells`] answers the one query over the cells of a ready set.
 //!
-//! The modules: `table`, `product`, `cells`: what is kept; `tasks`: tasks; `ends`: ends of steps; `laws`: what is kept, turn by turn.
+//! The modules: `table`, `product`, `cells`: what is kept; `tasks`: tasks; `ends`: ends of steps; `laws`: what is kept, turn by turn; `examples`:
+//! the definitions, computed.
 #![tactic(auto)]
 
 mod cells;
 mod ends;
+mod examples;
 mod laws;
 mod product;
 mod table;
@@ -21,6 +23,7 @@ mod tasks;
 
 pub use cells::{ReadyCells, SharedCells, ready_cells};
 pub use ends::{end_step, outcome_of};
+pub use examples::worked_examples;
 pub use laws::kept_by_turns;
 use plain_answer::Ask;
 pub use product::KeptProduct;

@@ -22,7 +22,7 @@ use Rattle.run_history.specs.Bounds.{AreAtMost}
 use Rattle.run_history.specs.Commands.Command.{Load, Submit, Steer, Ask}
 use Rattle.run_history.specs.Commands.Turn.{QueryEnds}
 use Rattle.run_history.specs.Cubes.{Rows}
-use Rattle.run_history.specs.Histories.{IsFresh, IsInFlight, IsNextAttempt, IsNextOfSession, MayNote, claim_count}
+use Rattle.run_history.specs.Histories.{AreAtRest, IsFresh, IsInFlight, IsNextAttempt, IsNextOfSession, MayNote, claim_count}
 use Rattle.run_history.specs.Invariants.{IsSound}
 use Rattle.run_history.specs.Steps.{accepted, by_verdict, claimed, query_ended, query_taken, submitted}
 use Rattle.run_history.specs.Verdicts.{most_segments, steer_refusal, verdict}
@@ -37,7 +37,8 @@ use Rattle.run_state.specs.Orders.{IsOrderly, IsQueued, KeepsData, data_of, prod
 use Rattle.run_state.proofs.SoundStates.{queued}
 use Rattle.step_fields.specs.Fits.{FitsRows, IsDayRange}
 use Rattle.job_board.proofs.Calls.{attempts_few, in_flight_there, jobs_count, segments_few}
-use Rattle.job_board.proofs.Steps.{board_step, fixed_now, named_verdict, noted_world, refused_world, small_now, sound_now, submitted_world, world_now}
+use Rattle.job_board.proofs.Rest.{all_rest}
+use Rattle.job_board.proofs.Steps.{board_step, claims_now, fixed_now, named_verdict, noted_world, refused_world, small_now, sound_now, submitted_world, world_now}
 
 module _ (honest : Type 0) (workers room : ℕ) (names : List (List ℕ)) (s : FixedState) (log : Log) (l : Ledger) (e : record { workers = workers; log = log.turns.items; room = room; products = products_of s } ≡ l) (b : IsBoard honest workers room names s log) where
   abbrev pub w : World Query
@@ -83,6 +84,15 @@ module _ (honest : Type 0) (workers room : ℕ) (names : List (List ℕ)) (s : F
 
   pub accepted_small : s.accepted + 1 < 2 ^ 32
   accepted_small = let same : w.accepted ≡ s.accepted = b.state.accepted in omega (arith, small_here.accepted, b.log.few)
+
+  pub jobs_few : length s.jobs.items ≤ 4_000_000_000
+  jobs_few = omega (arith, jobs_count w s b.state, small_here.jobs, b.log.few)
+
+  -- no job is under way where none waits and none is in flight
+  pub rest_there : (now l).queue ≡ [] → (now l).steps ≡ [] → AreAtRest (now l).jobs
+  rest_there queue steps =
+      forth (λ (v : World Query). AreAtRest v.jobs)
+      (all_rest w sound_here (claims_now honest workers room names s log b) (back (λ (v : World Query). v.queue ≡ []) queue) (back (λ (v : World Query). v.steps ≡ []) steps))
 
   pub segments_small : length s.segments.items ≤ most_segments
   segments_small = segments_few w s b.state sound_here

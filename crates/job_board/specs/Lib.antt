@@ -1,3 +1,4 @@
 pub mod Turns
 pub mod Ledger
 pub mod Boards
+pub mod Examples

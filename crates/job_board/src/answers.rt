@@ -1,7 +1,8 @@
 // What calls answer.
 
 use fixed_state::ReadyCells;
-use run_history::Refused;
+use job_machine::Ended;
+use run_history::{Outcome, Refused};
 
 /// Why a command has no answer.
 #[derive(Drop)]
@@ -28,4 +29,12 @@ pub struct QueryWork {
     pub session: u32,
     pub version: u32,
     pub cells: ReadyCells,
+}
+
+/// The end of an attempt: what is recorded of it, and what it was to the job. A job that is Advanced has one step more done, and waits for
+/// its next claim.
+#[derive(Clone, Copy)]
+pub struct StepEnd {
+    pub outcome: Outcome,
+    pub ended: Ended,
 }

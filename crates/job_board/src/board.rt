@@ -1,6 +1,6 @@
 // The board.
 
-ghost use Rattle.std.specs.Prelude.{◌≡◌, ◌≢◌, ◌≤◌, ◌<◌, ◌+◌, ◌==◌, ◌&&◌, ◌⊎◌, ◌↔◌, ◌++◌, ◌∷◌, [], true, None, Some, IfErr, IfOk, IfSome, IsErrOf, OnErr, OnOk, find, length, map, option_map, slice_get};
+ghost use Rattle.std.specs.Prelude.{◌≡◌, ◌≢◌, ◌≤◌, ◌<◌, ◌+◌, ◌==◌, ◌&&◌, ◌⊎◌, ◌↔◌, ◌++◌, ◌∷◌, ℕ, [], true, false, None, Some, IfErr, IfOk, IfSome, IsErrOf, OnErr, OnOk, find, length, map, option_map, slice_get};
 ghost use Rattle.std.specs.Arc.{arc_value};
 ghost use Rattle.std.specs.List.{list_any};
 ghost use Rattle.fixed_cube.specs.Columns.{fact_columns, row_limit};
@@ -11,13 +11,15 @@ ghost use Rattle.fixed_state.specs.Ends.{IsProductOf, ended_at, kept_of, product
 ghost use Rattle.fixed_state.specs.Ready.{AreCellsOf};
 ghost use Rattle.fixed_state.specs.States.{rows_seen};
 ghost use Rattle.job_board.specs.Ledger.{IfRefused, IsAdded, IsRecordedAs, IsSame, counts, ended_of, next_query, now, task_of, turns};
+ghost use Rattle.job_machine.specs.Job.{JobRecord, is_current, is_last_step};
 ghost use Rattle.job_machine.specs.declared.state.JobKind.TheVariants.{Build};
 ghost use Rattle.run_history.specs.Commands.{event_of};
 ghost use Rattle.run_history.specs.Commands.Command.{Ask, Load, Note, Steer, Submit};
 ghost use Rattle.run_history.specs.Commands.Turn.{Claims, QueryEnds, QueryTakes, StepEnds, Takes};
-ghost use Rattle.run_history.specs.Histories.{HasFreshAnswers, IsFresh, IsInFlight, IsLawful, IsLegal, IsNextAttempt, IsNextOfSession, MayNote, claim_count, is_settled};
+ghost use Rattle.run_history.specs.Histories.{AreAtRest, HasFreshAnswers, IsFresh, IsInFlight, IsLawful, IsLegal, IsNextAttempt, IsNextOfSession, MayNote, claim_count, is_settled};
 ghost use Rattle.run_history.specs.Invariants.{IsSound};
-ghost use Rattle.run_history.specs.Verdicts.{verdict};
+ghost use Rattle.run_history.specs.Steps.{end_by};
+ghost use Rattle.run_history.specs.Verdicts.{most_segments, verdict};
 ghost use Rattle.run_history.specs.World.{Submitted, Waiting, Asked, busy, job_of, next_task, number};
 ghost use Rattle.run_history.specs.declared.event.Outcome.{Outcome};
 ghost use Rattle.run_history.specs.declared.event.Outcome.TheVariants.{Damaged};
@@ -27,14 +29,14 @@ ghost use Rattle.step_fields.specs.Fits.{FitsRows};
 ghost use Rattle.job_board.specs.declared.answers.BoardRefusal.TheVariants.{Memory};
 ghost use Rattle.plain_answer.specs.declared.ask.Ask.{Ask as Query};
 
-use crate::answers::{BoardRefusal, QueryWork, Work};
+use crate::answers::{BoardRefusal, QueryWork, StepEnd, Work};
 use crate::turn::{BoardTurn, Log, record_turn, reserve_log};
 use cube_val::{NameText, Table};
 use fixed_cube::by_first;
 use fixed_state::{
     FixedState, KeptProduct, SharedCells, SharedTable, end_step, ready_cells, task_of_job,
 };
-use job_machine::{Job, JobKind};
+use job_machine::{Ended, Job, JobKind};
 use outside::{HandFault, Honest};
 use range_list::Range;
 use run_history::{Control, Event, Noted, Outcome, QueryOut, Refused};
@@ -122,6 +124,31 @@ fn is_lawful(query: QueryInFlight, answered: u32, last: u32, version: u32) -> bo
         && query.at_take <= version
         && answered <= version
         && version <= last
+}
+
+// What the end of an attempt is to its job: whether it counts, whether it is that of the last step, and what is recorded of it.
+fn ended_as(counts: bool, last: bool, outcome: Outcome) -> Ended
+    ensures stale { counts ≡ false → result ≡ Ended.Stale }
+    ensures job { (job : JobRecord) (attempt : ℕ) → is_current job attempt ≡ counts → is_last_step job ≡ last → result ≡ end_by outcome job attempt }
+{
+    if !counts {
+        return Ended::Stale;
+    }
+    match outcome {
+        Outcome::Done => {
+            if last {
+                Ended::Finished
+            } else {
+                Ended::Advanced
+            }
+        }
+        Outcome::NotStarted
+        | Outcome::Ended(_)
+        | Outcome::Killed
+        | Outcome::NoFile
+        | Outcome::Damaged
+        | Outcome::Memory => Ended::Failed,
+    }
 }
 
 impl<H: Honest> Board<H> {
@@ -336,6 +363,31 @@ impl<H: Honest> Board<H> {
         outcome
     }
 
+    /// As `end_step`, and what the end was to the job: Stale exactly where it doesn't count.
+    pub fn end_attempt(
+        &mut self,
+        job: u32,
+        attempt: u32,
+        answer: Result<Vec<u8>, HandFault>,
+    ) -> StepEnd
+        requires room { 0 < self.old.room }
+        requires claimed { 0 < claim_count job attempt (now self.old).steps }
+        requires product { H.honest → IsProductOf (now self.old) (job_of (now self.old) job) attempt answer }
+        ensures added { IsAdded self.old (StepEnds job attempt result.outcome) self.new }
+        ensures outcome { IsRecordedAs (now self.old) (job_of (now self.old) job) (kept_of self.old.products job) attempt answer result.outcome }
+        ensures ended { result.ended ≡ ended_of (job_of (now self.old) job) attempt result.outcome }
+        ensures honest { H.honest → result.outcome ≢ Damaged }
+        ensures products { self.new.products ≡ products_after (ended_of (job_of (now self.old) job) attempt result.outcome) job answer self.old.products }
+    {
+        let counts = run_state::is_current(&self.state.jobs, job, attempt);
+        let last = run_state::is_last_step(&self.state.jobs, job);
+        let outcome = self.end_step(job, attempt, answer);
+        StepEnd {
+            outcome,
+            ended: ended_as(counts, last, outcome),
+        }
+    }
+
     /// Takes the first waiting query of whose session none is in flight; `None` exactly where there is no such query.
     pub fn take_query(&mut self) -> Result<Option<QueryWork>, AllocError>
         requires room { 0 < self.old.room }
@@ -445,7 +497,11 @@ impl<H: Honest> Board<H> {
 
     /// The jobs by number, the first of which is job 1.
     pub fn jobs(&self) -> &[JobEntry<SharedTable, KeptProduct>]
-        ensures { map (submitted_of rows_seen) result.now ≡ (now self.now).jobs }
+        ensures jobs { map (submitted_of rows_seen) result.now ≡ (now self.now).jobs }
+        ensures few { length result.now ≤ 4_000_000_000 }
+
+        // A job that is PENDING or RUNNING waits in the queue, or its last claim is in flight.
+        ensures rest { (now self.now).queue ≡ [] → (now self.now).steps ≡ [] → AreAtRest (now self.now).jobs }
     {
         &self.state.jobs
     }
@@ -464,7 +520,8 @@ impl<H: Honest> Board<H> {
 
     /// The ready segments, in rising order of their ranges.
     pub fn ready(&self) -> &[ReadySegment<SharedCells>]
-        ensures { map place_kept result.now ≡ map place_of (now self.now).ready }
+        ensures ready { map place_kept result.now ≡ map place_of (now self.now).ready }
+        ensures few { length result.now ≤ most_segments }
     {
         &self.state.segments
     }

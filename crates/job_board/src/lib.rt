@@ -8,15 +8,17 @@
 //! Room for a turn is reserved before it (`reserve_turn`), so that `control`, `note`, `end_query` and the end of an attempt that doesn't
 //! count take no memory. A board knows one kind of job, BUILD, and the one query of the fixed cube.
 //!
-//! The modules: `turn`: turns and the log of them; `board`: the board; `answers`: what its calls answer.
+//! The modules: `turn`: turns and the log of them; `board`: the board; `answers`: what its calls answer; `examples`: the definitions, computed.
 #![tactic(auto)]
 
 mod answers;
 mod board;
+mod examples;
 mod turn;
 
-pub use answers::{BoardRefusal, QueryWork, Work};
+pub use answers::{BoardRefusal, QueryWork, StepEnd, Work};
 pub use board::Board;
+pub use examples::worked_examples;
 pub use fixed_cube::SmallWork;
 pub use turn::BoardTurn;
 
