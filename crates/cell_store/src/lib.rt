@@ -20,7 +20,7 @@ mod table;
 pub use cell::Cell;
 pub use examples::worked_examples;
 pub use steps::Steps;
-pub use table::CellTable;
+pub use table::{CellRow, CellTable};
 
 #[cfg(test)]
 mod tests;

@@ -30,8 +30,8 @@ impl<L: Ledger> Steps<L> {
         Steps { book, share }
     }
 
-    /// Counts one row.
-    pub(crate) fn tick(&mut self)
+    /// Counts one row. Who shows rows of another kind, as those of a snapshot, calls it once for each.
+    pub fn tick(&mut self)
         ensures { self.new ≡ self.old + 1 }
     {
         self.book.add(&mut self.share, 1);

@@ -12,9 +12,9 @@ use std::alloc::{AllocError, Global};
 use std::marker::Model;
 use std::sync::ledger::Ledger;
 
-// A key and its cells.
+/// A row on its way into a table: a key and its cells.
 #[derive(Drop)]
-struct CellRow {
+pub struct CellRow {
     key: Vec<u32>,
     cells: Vec<Cell>,
 }
@@ -30,6 +30,29 @@ impl Model for CellRow {
     ghost coded = { coded× (coded_list coded_ℕ) (coded_list cell.the_row.coded) };
 
     ghost view = { λ row. (row.key.items, row.cells.items) };
+}
+
+impl CellRow {
+    /// The row of a key and its cells. It takes no memory.
+    pub fn new(key: Vec<u32>, cells: Vec<Cell>) -> CellRow
+        ensures { result ≡ (key.items, cells.items) }
+    {
+        CellRow { key, cells }
+    }
+
+    /// The key.
+    pub fn key(&self) -> &[u32]
+        ensures { result.now ≡ self.now.0 }
+    {
+        &self.key
+    }
+
+    /// The cells.
+    pub fn cells(&self) -> &[Cell]
+        ensures { result.now ≡ self.now.1 }
+    {
+        &self.cells
+    }
 }
 
 /// The cells of a cuboid by their keys. A key has a dictionary number for each dimension of the mask, in the rising order
@@ -77,6 +100,27 @@ impl CellTable {
             alloc,
             mask,
             forms,
+            rows,
+        })
+    }
+
+    /// The table of these rows.
+    pub fn of_rows(
+        alloc: Global,
+        mask: Mask,
+        forms: &[MeasureForm],
+        rows: Vec<CellRow>,
+    ) -> Result<CellTable, AllocError>
+        requires { IsCellTable mask forms.now rows.items }
+        ensures mask { IfOk result (λ t. t.mask ≡ mask) }
+        ensures forms { IfOk result (λ t. t.forms ≡ forms.now) }
+        ensures rows { IfOk result (λ t. t.rows ≡ rows.items) }
+    {
+        let kept = Vec::from_slice(alloc, forms)?;
+        Ok(CellTable {
+            alloc,
+            mask,
+            forms: kept,
             rows,
         })
     }

@@ -39,8 +39,8 @@ impl Dict {
         Ok(Dict { values })
     }
 
-    /// The dictionary of values that rise strictly already.
-    pub(crate) fn of(values: Vec<Val>) -> Dict
+    /// The dictionary of values that rise strictly already. It takes no memory.
+    pub fn of(values: Vec<Val>) -> Dict
         requires { IsDictionary values.items }
         ensures { result ≡ values.items }
     {
