@@ -1,0 +1,156 @@
+-- What turns leave of a board: its world, its entries, its names and its lines.
+use Rattle.std.proofs.Common.{◌≡◌, ℕ, ◌⊎◌, List, [], ◌∷◌, ◌++◌, length, map, fold, take, drop, refl, sym, ap, ◌∙◌, subst, inl, inr, append_assoc, append-nil}
+use Rattle.std.specs.List.{AllByRecursion}
+use Rattle.std.proofs.lemmas.List.{map-append, take-append-drop}
+use Rattle.std.proofs.lemmas.List.Concat.{flat_map-append}
+use Rattle.std.proofs.lemmas.List.Sums.{fold-append}
+use Rattle.fixed_cube.specs.Cube.{fixed}
+use Rattle.job_board.specs.Ledger.{IsAdded, IsSame, Ledger, now, turns}
+use Rattle.job_board.specs.Turns as board_turns
+use Rattle.plain_answer.specs.declared.ask.Ask.{Ask}
+use Rattle.run_history.specs.Commands.{Turn, event_of}
+use Rattle.run_history.specs.Commands.Turn.{Takes, Claims, StepEnds, QueryTakes, QueryEnds}
+use Rattle.run_history.specs.Histories.{Along}
+use Rattle.run_history.specs.Steps.{step, world}
+use Rattle.run_history.specs.World.{World, start}
+use Rattle.run_transcript.specs.Entries.{Entry, entries_along}
+use Rattle.run_transcript.specs.Runs.{line_of, lines_in, lines_taken, turn_of, turns_of}
+use Rattle.run_transcript.specs.Served.{Inputs}
+use Rattle.run_transcript.proofs.Histories.{entries_along-append}
+use Rattle.script_text.specs.declared.verb.Line.{Line}
+use Rattle.coordinator.specs.Coordinator.{IsFront, IsGrown, IsOfStep, IsSound, IsWorked, entries_in}
+use Rattle.coordinator.specs.Runs.{AreTrusted, IsOverNone}
+use Rattle.coordinator.specs.Served.{served}
+
+-- ---- turns more
+
+pub grown-same : (old new : Ledger) → IsSame old new → IsGrown old [] new
+grown-same old new s = record { turns = ap board_turns.turns_of s.log ∙ sym (append-nil (turns old)); workers = s.workers }
+
+pub grown-equal : (old new : Ledger) → new ≡ old → IsGrown old [] new
+grown-equal old new e = record { turns = ap turns e ∙ sym (append-nil (turns old)); workers = ap (λ (l : Ledger). l.workers) e }
+
+pub grown-added : (old : Ledger) (turn : Turn Ask) (new : Ledger) → IsAdded old turn new → IsGrown old (turn ∷ []) new
+grown-added old turn new a = record { turns = a.turns; workers = a.workers }
+
+pub grown-then : (old mid new : Ledger) (first later : List (Turn Ask)) → IsGrown old first mid → IsGrown mid later new → IsGrown old (first ++ later) new
+grown-then old mid new first later g h = record {
+  turns = h.turns ∙ (ap (λ (ts : List (Turn Ask)). ts ++ later) g.turns ∙ append_assoc (turns old) first later);
+  workers = h.workers ∙ g.workers;
+}
+
+-- a turn after a call that leaves the board as it is
+pub added-same : (old mid : Ledger) (turn : Turn Ask) (new : Ledger) → IsSame old mid → IsAdded mid turn new → IsAdded old turn new
+added-same old mid turn new s a = record {
+  turns = a.turns ∙ ap (λ (ts : List (Turn Ask)). ts ++ turn ∷ []) (ap board_turns.turns_of s.log);
+  workers = a.workers ∙ s.workers;
+}
+
+pub same-equal : (old mid new : Ledger) → IsSame old mid → new ≡ mid → IsSame old new
+same-equal old mid new s e = subst (IsSame old) (sym e) s
+
+pub now-same : (old new : Ledger) → IsSame old new → now new ≡ now old
+now-same old new s =
+    ap (λ (n : ℕ). world fixed n (turns new)) s.workers ∙ ap (λ (ts : List (Turn Ask)). world fixed old.workers ts) (ap board_turns.turns_of s.log)
+
+module _ (old new : Ledger) (later : List (Turn Ask)) (g : IsGrown old later new) where
+  pub now-grown : now new ≡ fold (step fixed) (now old) later
+  now-grown =
+      ap (λ (n : ℕ). world fixed n (turns new)) g.workers
+      ∙ (ap (λ (ts : List (Turn Ask)). world fixed old.workers ts) g.turns ∙ fold-append (step fixed) (start old.workers (length fixed.tables)) (turns old) later)
+
+  pub entries-grown : (script : List Line) → entries_in script new ≡ entries_along served script (now old) (entries_in script old) later
+  entries-grown script =
+      ap (λ (n : ℕ). entries_along served script (start n (length fixed.tables)) [] (turns new)) g.workers
+      ∙ (ap (λ (ts : List (Turn Ask)). entries_along served script (start old.workers (length fixed.tables)) [] ts) g.turns
+      ∙ entries_along-append served script (start old.workers (length fixed.tables)) [] (turns old) later)
+
+  pub named-grown : (inputs : Inputs) → turns_of served inputs (map event_of (turns old)) ≡ turns old → turns_of served inputs (map event_of later) ≡ later
+      → turns_of served inputs (map event_of (turns new)) ≡ turns new
+  named-grown inputs n e =
+      ap (λ (ts : List (Turn Ask)). turns_of served inputs (map event_of ts)) g.turns
+      ∙ (ap (turns_of served inputs) (map-append event_of (turns old) later)
+      ∙ (map-append (turn_of served inputs) (map event_of (turns old)) (map event_of later)
+      ∙ (ap (λ (ts : List (Turn Ask)). ts ++ turns_of served inputs (map event_of later)) n
+      ∙ (ap (λ (ts : List (Turn Ask)). turns old ++ ts) e ∙ sym g.turns))))
+
+  pub lines-grown : lines_taken (map event_of (turns new)) ≡ lines_taken (map event_of (turns old)) ++ lines_taken (map event_of later)
+  lines-grown =
+      ap (λ (ts : List (Turn Ask)). lines_taken (map event_of ts)) g.turns
+      ∙ (ap lines_taken (map-append event_of (turns old) later) ∙ flat_map-append line_of (map event_of (turns old)) (map event_of later))
+
+-- ---- what is trusted
+
+along-parts : (P : World Ask → Turn Ask → Type 0) (w : World Ask) (turns later : List (Turn Ask)) → Along fixed P w (turns ++ later)
+    → Along fixed P w turns × Along fixed P (fold (step fixed) w turns) later
+along-parts P w [] later h = (tt, h)
+along-parts P w (turn ∷ turns) later h = let rest = along-parts P (step fixed w turn) turns later h.1 in ((h.0, rest.0), rest.1)
+
+pub trusted-grown : (honest : Type 0) (old new : Ledger) (later : List (Turn Ask)) → IsGrown old later new → AreTrusted honest new.workers (turns new)
+    → AreTrusted honest old.workers (turns old) × (honest ⊎ Along fixed IsOverNone (now old) later)
+trusted-grown honest old new later g (inl h) = (inl h, inl h)
+trusted-grown honest old new later g (inr h) =
+    let k = subst (λ (n : ℕ). Along fixed IsOverNone (start n (length fixed.tables)) (turns old ++ later)) g.workers
+    (subst (λ (ts : List (Turn Ask)). Along fixed IsOverNone (start new.workers (length fixed.tables)) ts) g.turns h) in
+    let parts = along-parts IsOverNone (start old.workers (length fixed.tables)) (turns old) later k in
+    (inr parts.0, inr parts.1)
+
+-- ---- claims and ends of steps
+
+steps-named : (inputs : Inputs) (later : List (Turn Ask)) → AllByRecursion IsOfStep later → turns_of served inputs (map event_of later) ≡ later
+steps-named inputs [] h = refl
+steps-named inputs (Claims job attempt ∷ later) h = ap (λ (ts : List (Turn Ask)). Claims job attempt ∷ ts) (steps-named inputs later h.1)
+steps-named inputs (StepEnds job attempt outcome ∷ later) h = ap (λ (ts : List (Turn Ask)). StepEnds job attempt outcome ∷ ts) (steps-named inputs later h.1)
+steps-named inputs (Takes line command ∷ later) h = absurd h.0
+steps-named inputs (QueryTakes line ∷ later) h = absurd h.0
+steps-named inputs (QueryEnds line out ∷ later) h = absurd h.0
+
+steps-lines : (later : List (Turn Ask)) → AllByRecursion IsOfStep later → lines_taken (map event_of later) ≡ []
+steps-lines [] h = refl
+steps-lines (Claims job attempt ∷ later) h = steps-lines later h.1
+steps-lines (StepEnds job attempt outcome ∷ later) h = steps-lines later h.1
+steps-lines (Takes line command ∷ later) h = absurd h.0
+steps-lines (QueryTakes line ∷ later) h = absurd h.0
+steps-lines (QueryEnds line out ∷ later) h = absurd h.0
+
+steps-entries : (script : List Line) (w : World Ask) (entries : List Entry) (later : List (Turn Ask)) → AllByRecursion IsOfStep later
+    → entries_along served script w entries later ≡ entries
+steps-entries script w entries [] h = refl
+steps-entries script w entries (Claims job attempt ∷ later) h = steps-entries script (step fixed w (Claims job attempt)) entries later h.1
+steps-entries script w entries (StepEnds job attempt outcome ∷ later) h = steps-entries script (step fixed w (StepEnds job attempt outcome)) entries later h.1
+steps-entries script w entries (Takes line command ∷ later) h = absurd h.0
+steps-entries script w entries (QueryTakes line ∷ later) h = absurd h.0
+steps-entries script w entries (QueryEnds line out ∷ later) h = absurd h.0
+
+pub worked-entries : (script : List Line) (old new : Ledger) → IsWorked old new → entries_in script new ≡ entries_in script old
+worked-entries script old new w = entries-grown old new w.later w.grown script ∙ steps-entries script (now old) (entries_in script old) w.later w.steps
+
+pub worked-named : (inputs : Inputs) (old new : Ledger) → IsWorked old new → turns_of served inputs (map event_of (turns old)) ≡ turns old
+    → turns_of served inputs (map event_of (turns new)) ≡ turns new
+worked-named inputs old new w n = named-grown old new w.later w.grown inputs n (steps-named inputs w.later w.steps)
+
+pub worked-lines : (old new : Ledger) → IsWorked old new → lines_taken (map event_of (turns new)) ≡ lines_taken (map event_of (turns old))
+worked-lines old new w =
+    lines-grown old new w.later w.grown
+    ∙ (ap (λ (ls : List ℕ). lines_taken (map event_of (turns old)) ++ ls) (steps-lines w.later w.steps) ∙ append-nil (lines_taken (map event_of (turns old))))
+
+-- ---- what is front
+
+pub front-sound : (inputs : Inputs) (board : Ledger) (taken : ℕ) → IsSound inputs board taken → IsFront inputs board
+front-sound inputs board taken s = record {
+  workers = s.workers;
+  named = s.named;
+  later = lines_in (drop taken inputs.script);
+  in_order =
+      ap lines_in (sym (take-append-drop taken inputs.script))
+      ∙ (map-append (λ (line : Line). line.number) (take taken inputs.script) (drop taken inputs.script)
+      ∙ ap (λ (ls : List ℕ). ls ++ lines_in (drop taken inputs.script)) (sym s.in_order));
+}
+
+pub front-worked : (inputs : Inputs) (old new : Ledger) → IsWorked old new → IsFront inputs old → IsFront inputs new
+front-worked inputs old new w f = record {
+  workers = w.grown.workers ∙ f.workers;
+  named = worked-named inputs old new w f.named;
+  later = f.later;
+  in_order = f.in_order ∙ ap (λ (ls : List ℕ). ls ++ f.later) (sym (worked-lines old new w));
+}

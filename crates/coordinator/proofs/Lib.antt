@@ -1,0 +1,17 @@
+pub mod Boards
+pub mod Idle
+pub mod Scripts
+pub mod Written
+pub mod Tells
+pub mod Queries
+pub mod Ends
+pub mod Worked
+pub mod Parts
+pub mod Whole
+pub mod Start
+pub mod Tables
+pub mod Tallies
+pub mod Results
+pub mod Still
+pub mod Blocks
+pub mod Endings

@@ -1,0 +1,25 @@
+-- The board before the first turn.
+use Rattle.std.proofs.Common.{ℕ, ◌<◌, Option, List, [], refl, sym, arith}
+use Rattle.job_board.specs.Ledger.{Ledger}
+use Rattle.run_transcript.specs.Served.{Inputs}
+use Rattle.script_text.specs.declared.verb.Line.{Line}
+use Rattle.coordinator.specs.Coordinator.{HasWritten, IsSound, RisesFrom}
+use Rattle.coordinator.proofs.Written.{append_none}
+
+abbrev pub empty_board : ℕ → Ledger
+empty_board workers = record { workers = workers; log = []; room = 0; products = [] }
+
+pub sound-start : (inputs : Inputs) → 0 < inputs.workers → RisesFrom 0 inputs.script → IsSound inputs (empty_board inputs.workers) 0
+sound-start inputs some rise = record {
+  within = omega arith;
+  workers = refl;
+  named = refl;
+  in_order = refl;
+  later = rise;
+  idle = record { workers = some; answers = λ session. omega arith; steps = refl; waiting = refl; asked = refl };
+  all_told = tt;
+}
+
+-- nothing is told, and nothing was written
+pub written-start : (honest : Type 0) (script : List Line) (workers : ℕ) (before : Option (List ℕ)) → HasWritten honest script (empty_board workers) before before
+written-start honest script workers before = λ trusted. sym (append_none before)

@@ -1,0 +1,8 @@
+use Rattle.std.proofs.Common.{◌≡◌, map, take}
+use Rattle.fixed_state.specs.States.{rows_seen}
+use Rattle.run_state.specs.States.{submitted_of}
+use Rattle.run_transcript.specs.Entries.{job_line}
+use Rattle.coordinator.proofs.listing.job_lines.Given as goal
+
+abbrev pub invariant-loop-entry : goal.invariant-loop-entry
+invariant-loop-entry l = l.lines.items ≡ map job_line (map (submitted_of rows_seen) (take l.entry-index l.jobs))
