@@ -1,0 +1,94 @@
+// Cells merged one by one.
+
+ghost use Rattle.std.specs.Prelude.{◌≡◌, ◌≤◌, ◌+◌, ◌<◌, IfOk, OnOk, ℕ, All, length, map};
+ghost use Rattle.aggregation.specs.Groups.{merged_all};
+ghost use Rattle.cell_store.specs.Cells.{ItemsAreFew, form_of, items_at, items_of};
+ghost use Rattle.measure_laws.specs.Measures.{most_items};
+ghost use Rattle.cell_gather.specs.Merges.{merged_cell, merged_cells, no_cell, no_cells};
+
+use crate::rows::KeyedCells;
+use cell_store::Cell;
+use measure_laws::{Count, IdSet, Max, Measure, MeasureForm, Min, Sum};
+use std::alloc::{AllocError, Global};
+
+// The cell of no row.
+fn no_cell(alloc: Global, form: MeasureForm) -> Cell
+    ensures { result ≡ no_cell form }
+{
+    match form {
+        MeasureForm::Count => Cell::Count(Count::zero(alloc)),
+        MeasureForm::Sum => Cell::Sum(Sum::zero(alloc)),
+        MeasureForm::Min => Cell::Min(Min::zero(alloc)),
+        MeasureForm::Max => Cell::Max(Max::zero(alloc)),
+        MeasureForm::Distinct => Cell::Distinct(IdSet::zero(alloc)),
+    }
+}
+
+// The cells of no row.
+fn no_cells(alloc: Global, forms: &[MeasureForm]) -> Result<Vec<Cell>, AllocError>
+    ensures { IfOk result (λ cells. cells.items ≡ no_cells forms.now) }
+{
+    let mut cells = Vec::new(alloc);
+    for form in forms {
+        cells.push(no_cell(alloc, *form))?;
+    }
+    Ok(cells)
+}
+
+// Merges another cell into a cell of its form.
+fn merge_cell(cell: &mut Cell, other: &Cell) -> Result<(), AllocError>
+    requires { items_of cell.old + items_of other.now ≤ most_items }
+    ensures { OnOk result (cell.new ≡ merged_cell cell.old other.now) }
+{
+    match cell {
+        Cell::Count(count) => match other {
+            Cell::Count(more) => count.merge(more),
+            _ => Ok(()),
+        },
+        Cell::Sum(sum) => match other {
+            Cell::Sum(more) => sum.merge(more),
+            _ => Ok(()),
+        },
+        Cell::Min(least) => match other {
+            Cell::Min(more) => least.merge(more),
+            _ => Ok(()),
+        },
+        Cell::Max(greatest) => match other {
+            Cell::Max(more) => greatest.merge(more),
+            _ => Ok(()),
+        },
+        Cell::Distinct(set) => match other {
+            Cell::Distinct(more) => set.merge(more),
+            _ => Ok(()),
+        },
+    }
+}
+
+// Merges the cells of another row into the cells of a row.
+fn merge_cells(cells: &mut [Cell], others: &[Cell]) -> Result<(), AllocError>
+    requires width { length cells.old ≡ length others.now }
+    requires few { (k : ℕ) → k < length cells.old → items_at k cells.old + items_at k others.now ≤ most_items }
+    ensures { OnOk result (cells.new ≡ merged_cells cells.old others.now) }
+{
+    for (k, cell) in cells.iter_mut().enumerate() {
+        merge_cell(cell, &others[k])?;
+    }
+    Ok(())
+}
+
+/// The merge of the cells of rows.
+pub(crate) fn merged_rows(
+    alloc: Global,
+    forms: &[MeasureForm],
+    rows: &[KeyedCells],
+) -> Result<Vec<Cell>, AllocError>
+    requires forms { All (λ row. map form_of row.1 ≡ forms.now) rows.now }
+    requires few { ItemsAreFew forms.now rows.now }
+    ensures { IfOk result (λ cells. cells.items ≡ merged_all (no_cells forms.now) merged_cells (map (λ row. row.1) rows.now)) }
+{
+    let mut cells = no_cells(alloc, forms)?;
+    for row in rows {
+        merge_cells(&mut cells, row.cells)?;
+    }
+    Ok(cells)
+}
