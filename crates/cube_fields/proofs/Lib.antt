@@ -1,0 +1,7 @@
+pub mod CellFacts
+pub mod ExactCells
+pub mod ExactDicts
+pub mod Given
+pub mod Puts
+pub mod Rises
+pub mod TableFacts
