@@ -1,14 +1,19 @@
 //! The program `cubes`: the commands of the engine over the files of the system and standard output.
 //!
 //! It is the top of the layers and holds no logic of its own. The outside as the crates below meet it comes from
-//! `os_objects`; it tells nothing of what files and standard output hold, so what is proved here is that the program
-//! is safe and that it ends. `main` reads the words, calls `run_plain` with them and ends with the status that it says.
+//! `os_objects`, and the steps of jobs are run by one `MemoryHand`, in this process. Files and standard output tell nothing
+//! of what they hold, so what is proved here is that the program is safe. `main` reads the words, calls `run` with them and
+//! ends with the status that it says.
 #![tactic(auto)]
 
-use cubes_plain::run_plain;
+ghost use Rattle.std.specs.Prelude.{◌≡◌, IfOk, length};
+
 use cubes_plain::status::MEMORY;
-use os_objects::{OsFiles, StdSink};
-use std::alloc::AllocError;
+use cubes_top::run;
+use fixed_cube::SmallWork;
+use os_objects::{OsFiles, OsStopper, StdSink};
+use outside::MemoryHand;
+use std::alloc::{AllocError, Global};
 use std::env;
 use std::io::ErrorKind;
 use std::process::ExitCode;
@@ -22,12 +27,30 @@ fn words<R: std::rt::Env + AllocGlobal>(rt: &R) -> Result<Vec<String>, AllocErro
     }
 }
 
+// The one hand, whose attempts meet no fate.
+fn hands(alloc: Global) -> Result<Vec<MemoryHand<SmallWork>>, AllocError>
+    ensures { IfOk result (λ hands. length hands.items ≡ 1) }
+{
+    let mut hands = Vec::new(alloc);
+    hands.push(MemoryHand::new(alloc, Vec::new(alloc)))?;
+    Ok(hands)
+}
+
 fn main(rt: HostRuntime) -> ExitCode {
-    let mut files = OsFiles::new(&rt);
-    let mut sink = StdSink::new(rt.stdout());
-    let status = match words(&rt) {
-        Ok(words) => run_plain(&rt, rt.alloc(), words.as_slice(), &mut files, &mut sink),
-        Err(_) => MEMORY,
+    let (Ok(words), Ok(hands)) = (words(&rt), hands(rt.alloc())) else {
+        return ExitCode::from(MEMORY);
     };
-    ExitCode::from(status)
+    let mut files = OsFiles::new(&rt);
+    let mut stopper = OsStopper::new(&rt);
+    let mut sink = StdSink::new(rt.stdout());
+    let ran = run(
+        &rt,
+        rt.alloc(),
+        words.as_slice(),
+        &mut files,
+        hands,
+        &mut stopper,
+        &mut sink,
+    );
+    ExitCode::from(ran.status)
 }

@@ -1,0 +1,130 @@
+use Rattle.std.proofs.Common.{◌≡◌, ◌⊎◌, ℕ, List, Ok, refl, sym, ◌∙◌, subst, inr}
+use Rattle.std.specs.String.{string_bytes}
+use Rattle.coordinator.specs.Runs.{fault_ends, run_ends}
+use Rattle.run_inputs.specs.Laws.{TellsOutcomeAt}
+use Rattle.run_inputs.specs.declared.fault.InputRefusal.TheVariants.{Memory}
+use Rattle.cubes_top.specs.Outcomes.{IsRun}
+use Rattle.cubes_top.specs.Outside.{seen}
+use Rattle.cubes_top.specs.Plain.{IsPlain}
+use Rattle.cubes_top.proofs.PlainFacts.{plain-memory}
+use Rattle.cubes_top.proofs.Refusals.{complete-told, ends_memory, none-risen}
+use Rattle.cubes_top.proofs.RunWords.{one_run}
+use Rattle.cubes_top.proofs.top.run.Goals as goal
+
+-- ---- a run
+
+pub returns-in-Ok-Some-clause-ran : goal.returns-in-Ok-Some-clause-ran
+returns-in-Ok-Some-clause-ran g c = λ path r.
+    let said = rw c.in-Ok-Some.field-0-is at c.in-Ok-Some.ensures.some in
+    let same = c.as_str.ensures.value ∙ one_run c.args.words.now (string_bytes c.in-Ok-Some.path) path said r in
+    subst
+    (λ (p : List ℕ). IsRun g.H.Honest.honest
+    (seen (g.F.Files.contents c.args.files.now) (g.F.Files.faults c.args.files.now) (g.F.Files.faults c.run_at.new.files) (g.S.Sink.faults c.args.sink.now) (g.S.Sink.faults c.run_at.new.sink)
+    (g.S.Sink.written c.args.sink.now) (g.S.Sink.written c.run_at.new.sink)) p c.run_at.result.history.items c.run_at.result.status) same c.run_at.ensures.ran
+
+pub returns-in-Ok-Some-clause-told : goal.returns-in-Ok-Some-clause-told
+returns-in-Ok-Some-clause-told g c = λ path outcome r t.
+    let said = rw c.in-Ok-Some.field-0-is at c.in-Ok-Some.ensures.some in
+    let same = c.as_str.ensures.value ∙ one_run c.args.words.now (string_bytes c.in-Ok-Some.path) path said r in
+    c.run_at.ensures.told outcome (subst (λ (p : List ℕ). TellsOutcomeAt (g.F.Files.contents c.args.files.now) p outcome) (sym same) t)
+
+pub returns-in-Ok-Some-clause-complete : goal.returns-in-Ok-Some-clause-complete
+returns-in-Ok-Some-clause-complete g c = λ path inputs r t none.
+    let said = rw c.in-Ok-Some.field-0-is at c.in-Ok-Some.ensures.some in
+    let same = c.as_str.ensures.value ∙ one_run c.args.words.now (string_bytes c.in-Ok-Some.path) path said r in
+    complete-told inputs c.run_at.result.status (c.run_at.ensures.told (Ok inputs) (subst (λ (p : List ℕ). TellsOutcomeAt (g.F.Files.contents c.args.files.now) p (Ok inputs)) (sym same) t))
+    (λ e. none.0 (c.run_at.ensures.read_fault e)) (λ e. none.1 (c.run_at.ensures.write_fault e))
+
+pub returns-in-Ok-Some-clause-plain : goal.returns-in-Ok-Some-clause-plain
+returns-in-Ok-Some-clause-plain g c = λ no_run. absurd (no_run (string_bytes c.in-Ok-Some.path) (rw c.in-Ok-Some.field-0-is at c.in-Ok-Some.ensures.some))
+
+pub returns-in-Ok-Some-clause-no_event : goal.returns-in-Ok-Some-clause-no_event
+returns-in-Ok-Some-clause-no_event g c = λ no_run. absurd (no_run (string_bytes c.in-Ok-Some.path) (rw c.in-Ok-Some.field-0-is at c.in-Ok-Some.ensures.some))
+
+pub returns-in-Ok-Some-clause-same_plain : goal.returns-in-Ok-Some-clause-same_plain
+returns-in-Ok-Some-clause-same_plain g c = λ no_run. absurd (no_run (string_bytes c.in-Ok-Some.path) (rw c.in-Ok-Some.field-0-is at c.in-Ok-Some.ensures.some))
+
+pub returns-in-Ok-Some-clause-bad_words : goal.returns-in-Ok-Some-clause-bad_words
+returns-in-Ok-Some-clause-bad_words g c = λ e. absurd (c.run_at.ensures.good_words e)
+
+pub returns-in-Ok-Some-clause-no_command : goal.returns-in-Ok-Some-clause-no_command
+returns-in-Ok-Some-clause-no_command g c = λ bad. absurd (bad.0 (string_bytes c.in-Ok-Some.path) (rw c.in-Ok-Some.field-0-is at c.in-Ok-Some.ensures.some))
+
+pub returns-in-Ok-Some-clause-bad_words_line : goal.returns-in-Ok-Some-clause-bad_words_line
+returns-in-Ok-Some-clause-bad_words_line g c = λ e. absurd (c.run_at.ensures.good_words e)
+
+-- ---- words that are no run
+
+pub returns-in-Ok-None-clause-ran : goal.returns-in-Ok-None-clause-ran
+returns-in-Ok-None-clause-ran g c = λ path r. absurd (rw c.in-Ok-None.field-0-is at c.in-Ok-None.ensures.none path r)
+
+pub returns-in-Ok-None-clause-told : goal.returns-in-Ok-None-clause-told
+returns-in-Ok-None-clause-told g c = λ path outcome r t. absurd (rw c.in-Ok-None.field-0-is at c.in-Ok-None.ensures.none path r)
+
+pub returns-in-Ok-None-clause-complete : goal.returns-in-Ok-None-clause-complete
+returns-in-Ok-None-clause-complete g c = λ path inputs r t none. absurd (rw c.in-Ok-None.field-0-is at c.in-Ok-None.ensures.none path r)
+
+pub returns-in-Ok-None-clause-plain : goal.returns-in-Ok-None-clause-plain
+returns-in-Ok-None-clause-plain g c = λ no_run.
+    let p = c.run_plain-status.ensures in
+    subst (λ (status : ℕ). IsPlain c.args.words.now
+    (seen (g.F.Files.contents c.args.files.now) (g.F.Files.faults c.args.files.now) (g.F.Files.faults c.run_plain-status.new.files) (g.S.Sink.faults c.args.sink.now) (g.S.Sink.faults c.run_plain-status.new.sink)
+    (g.S.Sink.written c.args.sink.now) (g.S.Sink.written c.run_plain-status.new.sink)) status) (sym c.without_run.ensures.status) (record {
+      which = p.status;
+      done = p.done;
+      memory = p.memory;
+      read_fault = p.read_fault_line;
+      write_fault = p.write_fault_part;
+      bad_descriptor = p.bad_descriptor;
+      bad_table = p.bad_table;
+      too_large = p.too_large;
+      nothing_there = p.nothing_there;
+      longer = p.longer;
+      misdescribed = p.misdescribed;
+      faulty = p.faulty;
+      accepted = λ path rows w t none. p.complete path rows w t none.0 none.1;
+      described = λ path cube w t none. p.complete_cuboids path cube w t none.0 none.1;
+    })
+
+pub returns-in-Ok-None-clause-bad_words : goal.returns-in-Ok-None-clause-bad_words
+returns-in-Ok-None-clause-bad_words g c = λ e. (rw c.in-Ok-None.field-0-is at c.in-Ok-None.ensures.none, c.run_plain-status.ensures.bad_words (sym c.without_run.ensures.status ∙ e))
+
+pub returns-in-Ok-None-clause-no_command : goal.returns-in-Ok-None-clause-no_command
+returns-in-Ok-None-clause-no_command g c = λ bad.
+    subst (λ (status : ℕ). (status ≡ 2) ⊎ (status ≡ 1)) (sym c.without_run.ensures.status) (c.run_plain-status.ensures.no_command bad.1)
+
+pub returns-in-Ok-None-clause-bad_words_line : goal.returns-in-Ok-None-clause-bad_words_line
+returns-in-Ok-None-clause-bad_words_line g c = λ e. c.run_plain-status.ensures.bad_words_line (sym c.without_run.ensures.status ∙ e)
+
+pub returns-in-Ok-None-clause-read_fault : goal.returns-in-Ok-None-clause-read_fault
+returns-in-Ok-None-clause-read_fault g c = λ e. c.run_plain-status.ensures.read_fault (sym c.without_run.ensures.status ∙ e)
+
+pub returns-in-Ok-None-clause-write_fault : goal.returns-in-Ok-None-clause-write_fault
+returns-in-Ok-None-clause-write_fault g c = λ e. c.run_plain-status.ensures.write_fault (sym c.without_run.ensures.status ∙ e)
+
+pub returns-in-Ok-None-clause-runs : goal.returns-in-Ok-None-clause-runs
+returns-in-Ok-None-clause-runs g c = none-risen g.H.Hand.runs run_ends refl c.args.hands.items c.without_run.result.hands.items c.without_run.result.history.items c.without_run.ensures.hands c.without_run.ensures.none
+
+pub returns-in-Ok-None-clause-faults : goal.returns-in-Ok-None-clause-faults
+returns-in-Ok-None-clause-faults g c = none-risen g.H.Hand.faults fault_ends refl c.args.hands.items c.without_run.result.hands.items c.without_run.result.history.items c.without_run.ensures.hands c.without_run.ensures.none
+
+-- ---- want of memory for the words
+
+pub returns-in-Err-clause-ran : goal.returns-in-Err-clause-ran
+returns-in-Err-clause-ran g c = λ path r. inr (record { refusal = Memory; why = tt; none = c.without_run-in-Err.ensures.none; refuses = (c.without_run-in-Err.ensures.status, refl) })
+
+pub returns-in-Err-clause-told : goal.returns-in-Err-clause-told
+returns-in-Err-clause-told g c = λ path outcome r t. ends_memory outcome c.without_run-in-Err.result.status c.without_run-in-Err.ensures.status
+
+pub returns-in-Err-clause-plain : goal.returns-in-Err-clause-plain
+returns-in-Err-clause-plain g c = λ no_run. subst (λ (status : ℕ). IsPlain c.args.words.now
+    (seen (g.F.Files.contents c.args.files.now) (g.F.Files.faults c.args.files.now) (g.F.Files.faults c.args.files.now) (g.S.Sink.faults c.args.sink.now) (g.S.Sink.faults c.args.sink.now)
+    (g.S.Sink.written c.args.sink.now) (g.S.Sink.written c.args.sink.now)) status) (sym c.without_run-in-Err.ensures.status) (plain-memory c.args.words.now
+    (seen (g.F.Files.contents c.args.files.now) (g.F.Files.faults c.args.files.now) (g.F.Files.faults c.args.files.now) (g.S.Sink.faults c.args.sink.now) (g.S.Sink.faults c.args.sink.now)
+    (g.S.Sink.written c.args.sink.now) (g.S.Sink.written c.args.sink.now)) refl)
+
+pub returns-in-Err-clause-runs : goal.returns-in-Err-clause-runs
+returns-in-Err-clause-runs g c = none-risen g.H.Hand.runs run_ends refl c.args.hands.items c.without_run-in-Err.result.hands.items c.without_run-in-Err.result.history.items c.without_run-in-Err.ensures.hands c.without_run-in-Err.ensures.none
+
+pub returns-in-Err-clause-faults : goal.returns-in-Err-clause-faults
+returns-in-Err-clause-faults g c = none-risen g.H.Hand.faults fault_ends refl c.args.hands.items c.without_run-in-Err.result.hands.items c.without_run-in-Err.result.history.items c.without_run-in-Err.ensures.hands c.without_run-in-Err.ensures.none

@@ -1,0 +1,5 @@
+pub mod Words
+pub mod Outside
+pub mod Plain
+pub mod Outcomes
+pub mod Rests
