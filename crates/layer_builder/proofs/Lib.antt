@@ -1,0 +1,4 @@
+pub mod BaseFacts
+pub mod LayerFacts
+pub mod MaskFacts
+pub mod PieceFacts

@@ -1,0 +1,178 @@
+// The base cuboid.
+
+ghost use Rattle.std.specs.Prelude.{◌≡◌, ◌≤◌, ◌<◌, ◌+◌, ◌^◌, ◌∷◌, [], All, IfOk, length, map};
+ghost use Rattle.std.specs.List.{AllZip, flat_map, zip};
+ghost use Rattle.measure_laws.specs.Measures.{most_items};
+ghost use Rattle.cell_gather.specs.Gathers.{cells_of, gathered};
+ghost use Rattle.cell_gather.specs.Keys.{part_of};
+ghost use Rattle.cell_store.specs.Cells.{ItemsAreFew};
+ghost use Rattle.layer_builder.specs.Base.{IsBase, base_mask, count_of_distincts, form_of_kind, key_in, key_width, measures_from};
+
+use crate::cells::{distincts, forms_of, row_cells};
+use crate::keys::key_of;
+use agg_group::Mask;
+use cell_gather::{KeyedCells, add_rows, gather, kept_dims};
+use cell_store::{Cell, CellTable, Steps};
+use cube_val::Row;
+use dim_dictionary::DictSet;
+use measure_laws::MeasureForm;
+use plain_answer::{Agg, FlatRows};
+use std::alloc::{AllocError, Global};
+use std::marker::Brand;
+use std::sync::ledger::{Blank, Ledger};
+use std::thread::Threads;
+
+// The mask of the first dimensions.
+fn base_mask(width: usize) -> Mask
+    requires { width ≤ 64 }
+    ensures { result ≡ base_mask width }
+{
+    if width < 64 {
+        Mask((1 << width) - 1)
+    } else {
+        Mask(u64::MAX)
+    }
+}
+
+// The cells of each row alone.
+fn cells_alone(
+    alloc: Global,
+    dicts: &DictSet,
+    width: usize,
+    aggs: &[Agg],
+    rows: &[Row],
+) -> Result<Vec<Vec<Cell>>, AllocError>
+    requires places { width + count_of_distincts aggs.now ≤ length dicts.now }
+    requires fits { length dicts.now < 2 ^ 64 }
+    ensures { IfOk result (λ cells. map (λ v. v.items) cells.items ≡ map (λ row. cells_of (measures_from dicts.now width aggs.now) (row ∷ [])) rows.now) }
+{
+    let mut cells = Vec::new(alloc);
+    for row in rows {
+        cells.push(row_cells(alloc, dicts, width, aggs, row)?)?;
+    }
+    Ok(cells)
+}
+
+// Rows to gather: the key of each row, with its cells.
+fn keyed<'a>(
+    alloc: Global,
+    dicts: &DictSet,
+    width: usize,
+    rows: &[Row],
+    cells: &'a [Vec<Cell>],
+) -> Result<Vec<KeyedCells<'a>>, AllocError>
+    requires { width ≤ length dicts.now }
+    ensures { IfOk result (λ keyed. keyed.items ≡ zip (map (key_in dicts.now width) rows.now) (map (λ v. v.items) cells.now)) }
+{
+    let mut keyed = Vec::new(alloc);
+    for (row, cells) in rows.iter().zip(cells) {
+        keyed.push(KeyedCells::new(key_of(alloc, dicts, width, row)?, cells))?;
+    }
+    Ok(keyed)
+}
+
+// The base cuboid of some rows.
+fn piece(
+    alloc: Global,
+    dicts: &DictSet,
+    aggs: &[Agg],
+    forms: &[MeasureForm],
+    rows: &[Row],
+) -> Result<CellTable, AllocError>
+    requires dicts { count_of_distincts aggs.now < length dicts.now }
+    requires few_dims { length dicts.now ≤ count_of_distincts aggs.now + 64 }
+    requires forms { forms.now ≡ map (λ agg. form_of_kind agg.kind) aggs.now }
+    requires few { length rows.now ≤ most_items }
+    ensures { IfOk result (IsBase aggs.now dicts.now rows.now) }
+{
+    let width = dicts.len() - distincts(aggs);
+    let cells = cells_alone(alloc, dicts, width, aggs, rows)?;
+    let keyed = keyed(alloc, dicts, width, rows, &cells)?;
+    gather(alloc, base_mask(width), forms, keyed)
+}
+
+// Rows cut into pieces of so many rows, and a shorter last one.
+fn cut<'a>(alloc: Global, rows: &'a [Row], size: usize) -> Result<Vec<&'a [Row]>, AllocError>
+    requires { 0 < size }
+    ensures { IfOk result (λ pieces. flat_map (λ p. p.now) pieces.items ≡ rows.now) }
+{
+    let mut pieces = Vec::new(alloc);
+    let mut start = 0;
+    while start < rows.len() {
+        let end = start + size.min(rows.len() - start);
+        pieces.push(&rows[start..end])?;
+        start = end;
+    }
+    Ok(pieces)
+}
+
+// The base cuboid of each piece.
+fn tables_of(
+    alloc: Global,
+    dicts: &DictSet,
+    aggs: &[Agg],
+    forms: &[MeasureForm],
+    pieces: &[&[Row]],
+) -> Result<Vec<CellTable>, AllocError>
+    requires dicts { count_of_distincts aggs.now < length dicts.now }
+    requires few_dims { length dicts.now ≤ count_of_distincts aggs.now + 64 }
+    requires forms { forms.now ≡ map (λ agg. form_of_kind agg.kind) aggs.now }
+    requires few { length (flat_map (λ p. p.now) pieces.now) ≤ most_items }
+    ensures { IfOk result (λ tables. AllZip (λ p t. IsBase aggs.now dicts.now p.now t) pieces.now tables.items) }
+{
+    let mut tables = Vec::new(alloc);
+    for rows in pieces {
+        tables.push(piece(alloc, dicts, aggs, forms, rows)?)?;
+    }
+    Ok(tables)
+}
+
+// The rows of tables, gathered by their whole keys.
+fn joined<L: Ledger>(
+    alloc: Global,
+    mask: Mask,
+    forms: &[MeasureForm],
+    tables: &[CellTable],
+    blank: Blank,
+) -> Result<CellTable, AllocError>
+    requires blank { (blank.name ≡ L.name) × (blank.parts ≡ L.parts) × (0 < L.parts) }
+    requires tables { All (λ t. (t.mask ≡ mask) × (t.forms ≡ forms.now)) tables.now }
+    requires few { ItemsAreFew forms.now (flat_map (λ t. t.rows) tables.now) }
+    ensures mask { IfOk result (λ t. t.mask ≡ mask) }
+    ensures forms { IfOk result (λ t. t.forms ≡ forms.now) }
+    ensures rows { IfOk result (λ t. t.rows ≡ gathered forms.now (part_of mask mask) (flat_map (λ t. t.rows) tables.now)) }
+{
+    let keeps = kept_dims(alloc, mask, mask)?;
+    let mut steps = Steps::<L>::new(blank);
+    let mut rows = Vec::new(alloc);
+    for table in tables {
+        rows.reserve(table.len())?;
+        add_rows(&mut rows, alloc, table, &keeps, &mut steps)?;
+    }
+    gather(alloc, mask, forms, rows)
+}
+
+/// The base cuboid: the aggregate of rows by all rowkey columns, in dictionary numbers. There is a dictionary for each rowkey
+/// column and then one for each COUNT_DISTINCT, in order. The rows are cut into at most so many pieces, and the answer is
+/// the same for every number of them. A row that has no number in the column of a SUM, MIN or MAX counts as 0 there.
+pub fn base<R: Threads + Sync>(
+    _rt: &R,
+    alloc: Global,
+    flat: &FlatRows,
+    dicts: &DictSet,
+    forms: &[Agg],
+    pieces: u32,
+) -> Result<CellTable, AllocError>
+    requires pieces { 0 < pieces }
+    requires dims { count_of_distincts forms.now < length dicts.now }
+    requires few_dims { length dicts.now ≤ count_of_distincts forms.now + 64 }
+    requires few { length flat.now ≤ most_items }
+    ensures { IfOk result (IsBase forms.now dicts.now flat.now) }
+{
+    let kinds = forms_of(alloc, forms)?;
+    let size = flat.len() / pieces as usize + 1;
+    let parts = cut(alloc, flat.rows(), size)?;
+    let tables = tables_of(alloc, dicts, forms, &kinds, &parts)?;
+    let mask = base_mask(dicts.len() - distincts(forms));
+    joined::<Brand>(alloc, mask, &kinds, &tables, Blank::new(1))
+}

@@ -1,0 +1,20 @@
+//! Cuboids: the base from the rows of a segment, and each smaller one from a larger one.
+//!
+//! The crate stands on rows and aggregates (`plain_answer`), on dictionaries (`dim_dictionary`), cell tables (`cell_store`)
+//! and rows gathered by keys (`cell_gather`). It knows neither descriptors nor step files.
+//!
+//! At its boundary: `base` is the aggregate of the rows by all rowkey columns, in dictionary numbers, and the same for
+//! every number of pieces. `regroup` gathers a table's rows by some of its dimensions, in as many steps as there are
+//! rows. So, by the law of `cell_gather::gathered_cells`, a table that is regrouped from the base, at once or by way of
+//! others, is the aggregate of the same rows.
+//!
+//! The modules: `keys`: keys of rows; `cells`: the cells of a row alone; `base_cuboid`: the base cuboid; `layers`: smaller ones.
+#![tactic(auto)]
+
+mod base_cuboid;
+mod cells;
+mod keys;
+mod layers;
+
+pub use base_cuboid::base;
+pub use layers::{Want, layer, regroup};
