@@ -30,7 +30,7 @@ mod table;
 pub use examples::worked_examples;
 pub use fault::{TableFault, TableKind, TableRefusal};
 pub use laws::files_have_one_outcome;
-pub use table::read_table;
+pub use table::{read_rows, read_table};
 
 #[cfg(test)]
 mod tests;

@@ -15,7 +15,7 @@ use crate::header::{columns_of, header_fault};
 use crate::key::first_repeated;
 use crate::records::{read_next, reader_of};
 use csv::{ByteRecord, Reader};
-use cube_val::{Table, TableForm};
+use cube_val::{Row, Table, TableForm};
 use std::alloc::Global;
 
 // Reads the header, in which each column of the form must stand once.
@@ -41,12 +41,12 @@ fn read_header(
     }
 }
 
-// The table of the rows, or the first fault: that of a repeated key comes before the one at which reading ended.
-fn judge(alloc: Global, form: &TableForm, body: Body) -> Result<Table, TableRefusal>
+// The rows, or the first fault: that of a repeated key comes before the one at which reading ended.
+fn judge(alloc: Global, form: &TableForm, body: Body) -> Result<Vec<Row>, TableRefusal>
     requires within { All (AreWithin form.now.key) body.rows.items }
     requires few { length body.rows.items ≤ most_rows }
     ensures ok { IfOk result (λ rows. (bytes : List ℕ) (header : List (List ℕ)) → header_fault form.now.cols header ≡ None
-        → IsBodyOf (columns_of form.now header) (length header) bytes header body.rows.items body.fault → IsTableOf form.now bytes rows) }
+        → IsBodyOf (columns_of form.now header) (length header) bytes header body.rows.items body.fault → IsTableOf form.now bytes rows.items) }
     ensures fault { (f : TableFault) → result ≡ Err (TableRefusal.Fault f) → (bytes : List ℕ) (header : List (List ℕ)) → header_fault form.now.cols header ≡ None
         → IsBodyOf (columns_of form.now header) (length header) bytes header body.rows.items body.fault → IsFaultOf form.now bytes f }
 {
@@ -62,16 +62,16 @@ fn judge(alloc: Global, form: &TableForm, body: Body) -> Result<Table, TableRefu
         Err(_) => return Err(TableRefusal::Memory),
     }
     match fault {
-        None => Ok(Table::of(rows)),
+        None => Ok(rows),
         Some(fault) => Err(TableRefusal::Fault(fault)),
     }
 }
 
-/// The table that the bytes of a file are.
-pub fn read_table(alloc: Global, form: &TableForm, bytes: &[u8]) -> Result<Table, TableRefusal>
+/// The rows of the table that the bytes of a file are.
+pub fn read_rows(alloc: Global, form: &TableForm, bytes: &[u8]) -> Result<Vec<Row>, TableRefusal>
     requires no_null { length form.now.no_null ≡ length form.now.cols }
     requires key { All (λ place. place < length form.now.cols) form.now.key }
-    ensures ok { IfOk result (λ rows. IsTableOf form.now bytes.now rows) }
+    ensures ok { IfOk result (λ rows. IsTableOf form.now bytes.now rows.items) }
     ensures fault { (f : TableFault) → result ≡ Err (TableRefusal.Fault f) → IsFaultOf form.now bytes.now f }
 {
     let mut reader = reader_of(alloc, bytes);
@@ -88,4 +88,17 @@ pub fn read_table(alloc: Global, form: &TableForm, bytes: &[u8]) -> Result<Table
         return Err(TableRefusal::Memory);
     };
     judge(alloc, form, body)
+}
+
+/// The table that the bytes of a file are.
+pub fn read_table(alloc: Global, form: &TableForm, bytes: &[u8]) -> Result<Table, TableRefusal>
+    requires no_null { length form.now.no_null ≡ length form.now.cols }
+    requires key { All (λ place. place < length form.now.cols) form.now.key }
+    ensures ok { IfOk result (λ rows. IsTableOf form.now bytes.now rows) }
+    ensures fault { (f : TableFault) → result ≡ Err (TableRefusal.Fault f) → IsFaultOf form.now bytes.now f }
+{
+    match read_rows(alloc, form, bytes) {
+        Ok(rows) => Ok(Table::of(rows)),
+        Err(refusal) => Err(refusal),
+    }
 }

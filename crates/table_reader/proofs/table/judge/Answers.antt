@@ -7,7 +7,7 @@ use Rattle.table_reader.proofs.table.judge.Goals as goal
 pub returns-in-None-clause-ok : goal.returns-in-None-clause-ok
 returns-in-None-clause-ok c = λ bytes header named b.
     let distinct = rw (c.in-Ok-None.field-0-is, c.as_slice.ensures, c.as_slice-2.ensures.value) at c.in-Ok-None.ensures.none in
-    rw c.of.ensures (body_is_table c.args.form.now bytes header c.args.body.rows.items (rw c.in-None.is at b) named distinct)
+    body_is_table c.args.form.now bytes header c.args.body.rows.items (rw c.in-None.is at b) named distinct
 
 pub returns-in-Some-clause-fault : goal.returns-in-Some-clause-fault
 returns-in-Some-clause-fault c f same bytes header named b =

@@ -3,7 +3,7 @@ use Rattle.std.proofs.lemmas.Result.{IfOk-weaker}
 use Rattle.csv.specs.Records.{fields_of}
 use Rattle.table_reader.specs.declared.fault.TableRefusal.TheVariants.{Fault}
 use Rattle.table_reader.proofs.TableFacts.{rows_within}
-use Rattle.table_reader.proofs.table.read_table.Goals as goal
+use Rattle.table_reader.proofs.table.read_rows.Goals as goal
 
 pub judge-requires : goal.judge-requires
 judge-requires c =
