@@ -36,7 +36,7 @@ key_cell_of_none (c ∷ columns) [] column none = refl
 key_cell_of_none (c ∷ columns) (v ∷ key) column none = absurd (omega arith)
 
 -- the groups of keys, one after another
-groups_of_keys : (columns : List ℕ) (aggs : List Agg) (rows keys : List (List Val))
+pub groups_of_keys : (columns : List ℕ) (aggs : List Agg) (rows keys : List (List Val))
     → map (λ key. group_from (key, aggregates_of aggs (rows_at columns rows key))) keys
     ≡ map group_from (map (λ key. (key, aggregates_of aggs (values_at row_cmp (key_of columns) (λ row. row) rows key))) keys)
 groups_of_keys columns aggs rows [] = refl

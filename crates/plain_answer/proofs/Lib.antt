@@ -3,4 +3,5 @@ pub mod ConditionLemmas
 pub mod GroupLemmas
 pub mod LoopLemmas
 pub mod OrderLemmas
+pub mod ProjectionLemmas
 pub mod SortLemmas

@@ -54,6 +54,10 @@ rows_at columns rows key = filter (λ row. eq_by_cmp row_cmp key (key_of columns
 abbrev pub aggregates_of : List Agg → List (List Val) → List OutVal
 aggregates_of aggs rows = map (λ agg. aggregate_of agg rows) aggs
 
+-- the group of a key, with its aggregates
+abbrev pub group_at : List ℕ → List Agg → List (List Val) → List Val → PlainRow
+group_at columns aggs rows key = record { key = key; values = aggregates_of aggs (rows_at columns rows key) }
+
 -- the groups of rows, with their aggregates
 abbrev pub groups_of : List ℕ → List Agg → List (List Val) → List PlainRow
 groups_of columns aggs rows = map (λ key. record { key = key; values = aggregates_of aggs (rows_at columns rows key) }) (group_keys columns rows)

@@ -1,5 +1,6 @@
 -- A small table of sales, and asks of it.
 use Rattle.std.specs.Prelude.{ℕ, ℤ, pos, neg_ℤ, List, [], ◌∷◌, Some, None, true, codes}
+use Rattle.agg_group.specs.declared.mask.Mask.{Mask}
 use Rattle.cube_val.specs.declared.val.ColType.TheVariants as ty
 use Rattle.cube_val.specs.declared.val.Val.{Val}
 use Rattle.cube_val.specs.declared.val.Val.TheVariants.{Int, Text}
@@ -30,8 +31,15 @@ count_of_rows = record { kind = kind.Count; column = None; ty = ty.Int }
 abbrev total_price : Agg
 total_price = record { kind = kind.Sum; column = Some 2; ty = ty.Decimal }
 
-abbrev sellers : Agg
+abbrev pub sellers : Agg
 sellers = record { kind = kind.Distinct; column = Some 1; ty = ty.Int }
+
+-- no dimension, and the region alone
+abbrev pub no_dims : Mask
+no_dims = record { 0 = 0 }
+
+abbrev pub by_region : Mask
+by_region = record { 0 = 1 }
 
 -- the region with the greatest average price
 abbrev pub best_region : Ask

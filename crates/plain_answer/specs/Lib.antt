@@ -6,5 +6,6 @@ pub mod Examples
 pub mod Laws
 pub mod OutRefs
 pub mod OutVals
+pub mod Projections
 pub mod Sorting
 pub mod Truths

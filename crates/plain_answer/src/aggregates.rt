@@ -201,7 +201,7 @@ fn count_distinct(alloc: Global, values: &[&Val]) -> Result<OutVal, AllocError>
 }
 
 /// What an aggregate makes of rows.
-pub(crate) fn aggregate(alloc: Global, agg: Agg, rows: &[&Row]) -> Result<OutVal, AllocError>
+pub(crate) fn aggregate_rows(alloc: Global, agg: Agg, rows: &[&Row]) -> Result<OutVal, AllocError>
     requires { length rows.now ≤ most_items }
     ensures { IfOk result (λ v. v ≡ aggregate_of agg (map (λ row. row.now) rows.now)) }
 {

@@ -2,12 +2,13 @@
 
 ghost use Rattle.std.specs.Prelude.{◌≡◌, ◌≤◌, filter, length, map, IfOk};
 ghost use Rattle.std.specs.Ordering.{eq_by_cmp};
+ghost use Rattle.aggregation.specs.Groups.{distinct};
 ghost use Rattle.cube_val.specs.Order.{row_cmp, val_cmp};
 ghost use Rattle.measure_laws.specs.Measures.{most_items};
 ghost use Rattle.plain_answer.specs.Aggregates.{cell};
-ghost use Rattle.plain_answer.specs.Answers.{aggregates_of, group_keys, groups_of, key_of, passes, rows_at};
+ghost use Rattle.plain_answer.specs.Answers.{aggregates_of, group_at, group_keys, groups_of, key_of, passes, rows_at};
 
-use crate::aggregates::{aggregate, distinct};
+use crate::aggregates::{aggregate_rows, distinct};
 use crate::answer::{AnswerRow, PlainRow};
 use crate::ask::Agg;
 use crate::cond::Cond;
@@ -118,7 +119,19 @@ fn keys_of(alloc: Global, columns: &[usize], rows: &[&Row]) -> Result<Vec<Row>, 
     Ok(keys)
 }
 
-// The keys of rows, in order, each once.
+/// The keys of rows, in order, each once.
+pub(crate) fn distinct_keys(
+    alloc: Global,
+    columns: &[usize],
+    rows: &[&Row],
+) -> Result<Vec<Row>, AllocError>
+    ensures { IfOk result (λ keys. keys.items ≡ distinct row_cmp (map (key_of columns.now) (map (λ row. row.now) rows.now))) }
+{
+    let keys = keys_of(alloc, columns, rows)?;
+    distinct(alloc, keys)?.into_iter().collect(alloc)
+}
+
+// The keys of the groups of rows, in order.
 fn group_keys(alloc: Global, columns: &[usize], rows: &[&Row]) -> Result<Vec<Row>, AllocError>
     ensures { IfOk result (λ keys. keys.items ≡ group_keys columns.now (map (λ row. row.now) rows.now)) }
 {
@@ -128,10 +141,7 @@ fn group_keys(alloc: Global, columns: &[usize], rows: &[&Row]) -> Result<Vec<Row
             keys.push(Row::new(alloc))?;
             Ok(keys)
         }
-        [_, ..] => {
-            let keys = keys_of(alloc, columns, rows)?;
-            distinct(alloc, keys)?.into_iter().collect(alloc)
-        }
+        [_, ..] => distinct_keys(alloc, columns, rows),
     }
 }
 
@@ -142,10 +152,30 @@ fn aggregates(alloc: Global, aggs: &[Agg], rows: &[&Row]) -> Result<AnswerRow, A
 {
     let mut values = AnswerRow::new(alloc);
     for agg in aggs {
-        let v = aggregate(alloc, *agg, rows)?;
+        let v = aggregate_rows(alloc, *agg, rows)?;
         values.push(v)?;
     }
     Ok(values)
+}
+
+/// The groups of rows at these keys, with their aggregates.
+pub(crate) fn groups_at(
+    alloc: Global,
+    columns: &[usize],
+    aggs: &[Agg],
+    rows: &[&Row],
+    keys: Vec<Row>,
+) -> Result<Vec<PlainRow>, AllocError>
+    requires { length rows.now ≤ most_items }
+    ensures { IfOk result (λ groups. groups.items ≡ map (group_at columns.now aggs.now (map (λ row. row.now) rows.now)) keys.items) }
+{
+    let mut groups = Vec::new(alloc);
+    for key in keys {
+        let found = rows_at(alloc, columns, rows, key.vals())?;
+        let values = aggregates(alloc, aggs, &found)?;
+        groups.push(PlainRow { key, values })?;
+    }
+    Ok(groups)
 }
 
 /// The groups of rows, with their aggregates.
@@ -158,11 +188,6 @@ pub(crate) fn groups(
     requires { length rows.now ≤ most_items }
     ensures { IfOk result (λ groups. groups.items ≡ groups_of columns.now aggs.now (map (λ row. row.now) rows.now)) }
 {
-    let mut groups = Vec::new(alloc);
-    for key in group_keys(alloc, columns, rows)? {
-        let found = rows_at(alloc, columns, rows, key.vals())?;
-        let values = aggregates(alloc, aggs, &found)?;
-        groups.push(PlainRow { key, values })?;
-    }
-    Ok(groups)
+    let keys = group_keys(alloc, columns, rows)?;
+    groups_at(alloc, columns, aggs, rows, keys)
 }

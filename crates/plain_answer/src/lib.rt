@@ -3,9 +3,10 @@
 //! An `Ask` is a bound query over rows of columns: a condition on rows, the columns to group by, the aggregates, a
 //! condition on groups, an order and a limit. `plain` answers it from a list of rows by the definition itself: a filter
 //! and folds over the whole list, with no state and no index. Whatever answers faster (cuboids, dictionaries, segments
-//! scanned one by one and combined) is proved equal to this.
+//! scanned one by one and combined) is proved equal to this. `aggregate` gives the projections of rows on a set of dimensions
+//! in the same way.
 //!
-//! The crate stands on `cube_val`, `measure_laws` and `aggregation`. At its boundary:
+//! The crate stands on `cube_val`, `agg_group`, `measure_laws` and `aggregation`. At its boundary:
 //!
 //! - `Ask`, `AnswerTable` and their parts are plain data in contracts: numbers, lists, and no pointers.
 //! - Any ask has an answer. `IsSound` in `specs/Asks.antt` says which asks have a meaning in the query language; `plain`
@@ -24,6 +25,7 @@ mod grouped_table;
 mod groups;
 mod laws;
 mod out_ref;
+mod projections;
 mod rows;
 mod terms;
 mod truth;
@@ -37,6 +39,7 @@ pub use examples::worked_examples;
 pub use grouped_table::table;
 pub use laws::groups_are_grouped;
 pub use out_ref::OutRef;
+pub use projections::aggregate;
 pub use rows::FlatRows;
 pub use terms::{GroupTerms, Terms};
 pub use truth::Truth;

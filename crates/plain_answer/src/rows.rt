@@ -31,6 +31,21 @@ impl FlatRows {
         }
     }
 
+    /// The list of these rows. It takes no memory.
+    pub fn of(rows: Vec<Row>) -> FlatRows
+        ensures { result ≡ rows.items }
+    {
+        FlatRows { rows }
+    }
+
+    /// The rows, given back. It takes no memory.
+    pub fn into_rows(self) -> Vec<Row>
+        ensures { result.items ≡ self }
+    {
+        let FlatRows { rows } = self;
+        rows
+    }
+
     /// Adds a row at the end.
     pub fn push(&mut self, r: Row) -> Result<(), AllocError>
         ensures ok { OnOk result (self.new ≡ self.old ++ r ∷ []) }

@@ -2,8 +2,10 @@
 // average is the sum by the count there, cut toward zero.
 
 use crate::{
-    Agg, AggKind, AnswerTable, Ask, Cond, FlatRows, Lit, OrderKey, Out, OutVal, Term, Test, plain,
+    Agg, AggKind, AnswerTable, Ask, Cond, FlatRows, Lit, OrderKey, Out, OutVal, PlainRow, Term,
+    Test, aggregate, plain,
 };
+use agg_group::Mask;
 use cube_val::{ColType, Items, NameText, Row, TextVal, Val, decimal_text};
 use sqlite_items::Boxed;
 use std::alloc::{AllocError, Global};
@@ -193,6 +195,36 @@ fn check(rt: &impl Abort, alloc: Global, ask: &Ask, wanted: &str) -> Result<(), 
     Ok(())
 }
 
+// The groups of a table with a bar after each: how many values the key has, and the aggregates.
+fn shown_groups(alloc: Global, groups: &[PlainRow]) -> Result<Vec<u8>, AllocError> {
+    let mut text = Vec::new(alloc);
+    for group in groups {
+        text.extend_from_slice(group.key.len().to_string(alloc)?.as_bytes())?;
+        for v in group.values.as_slice() {
+            text.push(b',')?;
+            text.extend_from_slice(shown(alloc, v)?.as_slice())?;
+        }
+        text.push(b'|')?;
+    }
+    Ok(text)
+}
+
+// Aggregates the sales by a set of dimensions, and compares the groups.
+fn check_aggregate(
+    rt: &impl Abort,
+    alloc: Global,
+    dims: Mask,
+    forms: &[Agg],
+    wanted: &str,
+) -> Result<(), Fail> {
+    let rows = FlatRows::of(sales(alloc)?.into_rows());
+    assert!(rt; rows.len() == 20);
+    let groups = aggregate(alloc, dims, forms, rows.rows())?;
+    let text = shown_groups(alloc, &groups)?;
+    assert!(rt; text.as_slice() == wanted.as_bytes());
+    Ok(())
+}
+
 // The sales of which a condition is true: how many they are, of how many sellers, and their least and greatest price.
 fn check_condition(
     rt: &impl Abort,
@@ -315,5 +347,23 @@ fn orders_with_ties(rt: HostRuntime) -> Result<(), Fail> {
         alloc,
         &ties,
         "US,10,1,|ASIA,9,1,|US,9,2,|null,8,1,|EU,8,2,|eu,8,2,|null,7,1,|",
+    )
+}
+
+#[test]
+fn projections(rt: HostRuntime) -> Result<(), Fail> {
+    let alloc = rt.alloc();
+    let forms = [
+        COUNT,
+        of_seller(AggKind::Distinct),
+        of_price(AggKind::Sum),
+        of_price(AggKind::Avg),
+    ];
+    check_aggregate(
+        &rt,
+        alloc,
+        Mask(1),
+        &forms,
+        "1,3,2,5.9999,1.9999|1,2,1,-1.0001,-0.5000|1,3,2,null,null|1,5,2,24.4845,4.8969|1,5,3,9.6665,1.9333|1,2,1,0.0000,0.0000|",
     )
 }

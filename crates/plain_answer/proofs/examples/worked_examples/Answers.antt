@@ -8,6 +8,7 @@ use Rattle.plain_answer.specs.declared.cond.Term.{Term}
 use Rattle.plain_answer.specs.declared.cond.Term.TheVariants.{Agg as Agg'}
 use Rattle.plain_answer.specs.Asks.{IsColumn, IsLitOf, IsOfGroup, IsSoundAgg, pairs_step, terms_step}
 use Rattle.plain_answer.specs.Examples.{average_price, count_of_rows, small_regions}
+use Rattle.plain_answer.specs.Projections.{columns_of}
 use Rattle.plain_answer.proofs.ConditionLemmas.{at_compare, at_true}
 use Rattle.plain_answer.proofs.LoopLemmas.{all_listed}
 use Rattle.plain_answer.proofs.examples.worked_examples.Goals as goal
@@ -29,6 +30,18 @@ returns-clause-in_february c = simp at_true
 
 pub returns-clause-in_both : goal.returns-clause-in_both
 returns-clause-in_both c = simp at_true
+
+pub returns-clause-projections : goal.returns-clause-projections
+unfolding columns_of
+returns-clause-projections c = refl
+
+pub returns-clause-one_projection : goal.returns-clause-one_projection
+unfolding columns_of
+returns-clause-one_projection c = refl
+
+pub returns-clause-no_projection : goal.returns-clause-no_projection
+unfolding columns_of
+returns-clause-no_projection c = refl
 
 -- what the parts of the ask are asked
 count_is_sound : IsSoundAgg count_of_rows

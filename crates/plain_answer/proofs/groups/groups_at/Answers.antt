@@ -8,7 +8,7 @@ use Rattle.plain_answer.specs.declared.answer.OutVal.{OutVal}
 use Rattle.plain_answer.specs.declared.answer.PlainRow.{PlainRow}
 use Rattle.plain_answer.specs.Answers.{aggregates_of, key_of, rows_at}
 use Rattle.plain_answer.proofs.LoopLemmas.{length-filter}
-use Rattle.plain_answer.proofs.groups.groups.Goals as goal
+use Rattle.plain_answer.proofs.groups.groups_at.Goals as goal
 
 pub aggregates-requires : goal.aggregates-requires
 aggregates-requires c =

@@ -1,6 +1,6 @@
 use Rattle.std.proofs.Common.{◌≡◌, map}
 use Rattle.plain_answer.specs.Answers.{aggregates_of, rows_at}
-use Rattle.plain_answer.proofs.groups.groups.Given as goal
+use Rattle.plain_answer.proofs.groups.groups_at.Given as goal
 
 abbrev pub invariant-loop-key : goal.invariant-loop-key
 invariant-loop-key l =

@@ -2,7 +2,7 @@ use Rattle.std.proofs.Common.{map, length, arith, ap}
 use Rattle.std.proofs.lemmas.List.{length-map}
 use Rattle.plain_answer.specs.Aggregates.{number_in}
 use Rattle.plain_answer.proofs.AggregateLemmas.{length-filter_map, length-known_values}
-use Rattle.plain_answer.proofs.aggregates.aggregate.Goals as goal
+use Rattle.plain_answer.proofs.aggregates.aggregate_rows.Goals as goal
 
 pub show_sum-requires : goal.show_sum-requires
 show_sum-requires c =
