@@ -29,6 +29,7 @@ mod table;
 
 pub use examples::worked_examples;
 pub use fault::{TableFault, TableKind, TableRefusal};
+pub use key::first_repeated;
 pub use laws::files_have_one_outcome;
 pub use table::{read_rows, read_table};
 
