@@ -1,4 +1,6 @@
 pub mod BaseFacts
+pub mod CuboidFacts
 pub mod LayerFacts
+pub mod MadeFacts
 pub mod MaskFacts
 pub mod PieceFacts

@@ -1,5 +1,5 @@
 -- The base cuboid: the aggregate of flat rows by all rowkey columns, in dictionary numbers.
-use Rattle.std.specs.Prelude.{◌≡◌, ◌+◌, ◌-◌, ◌^◌, ◌≤◌, ℕ, ℤ, List, [], ◌∷◌, Option, Some, None, count_by, length, map, slice_get, unwrap_or}
+use Rattle.std.specs.Prelude.{◌≡◌, ◌+◌, ◌-◌, ◌^◌, ℕ, List, [], ◌∷◌, Option, Some, None, count_by, length, map, slice_get, unwrap_or}
 use Rattle.std.specs.Ordering.{is_lt}
 use Rattle.agg_group.specs.declared.mask.Mask.{Mask}
 use Rattle.agg_group.specs.Sets.{dimensions}

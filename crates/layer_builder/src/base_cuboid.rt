@@ -10,6 +10,7 @@ ghost use Rattle.layer_builder.specs.Base.{IsBase, base_mask, count_of_distincts
 
 use crate::cells::{distincts, forms_of, row_cells};
 use crate::keys::key_of;
+use crate::made::all_made;
 use agg_group::Mask;
 use cell_gather::{KeyedCells, add_rows, gather, kept_dims};
 use cell_store::{Cell, CellTable, Steps};
@@ -17,6 +18,7 @@ use cube_val::Row;
 use dim_dictionary::DictSet;
 use measure_laws::MeasureForm;
 use plain_answer::{Agg, FlatRows};
+use rayon::prelude::*;
 use std::alloc::{AllocError, Global};
 use std::marker::Brand;
 use std::sync::ledger::{Blank, Ledger};
@@ -107,7 +109,8 @@ fn cut<'a>(alloc: Global, rows: &'a [Row], size: usize) -> Result<Vec<&'a [Row]>
 }
 
 // The base cuboid of each piece.
-fn tables_of(
+fn tables_of<R: Threads + Sync>(
+    rt: &R,
     alloc: Global,
     dicts: &DictSet,
     aggs: &[Agg],
@@ -120,11 +123,20 @@ fn tables_of(
     requires few { length (flat_map (λ p. p.now) pieces.now) ≤ most_items }
     ensures { IfOk result (λ tables. AllZip (λ p t. IsBase aggs.now dicts.now p.now t) pieces.now tables.items) }
 {
-    let mut tables = Vec::new(alloc);
-    for rows in pieces {
-        tables.push(piece(alloc, dicts, aggs, forms, rows)?)?;
-    }
-    Ok(tables)
+    let made = pieces
+        .par_iter()
+        .with_min_len(1)
+        .map(
+            move |rows: &&[Row]| -> Result<CellTable, AllocError>
+                requires dicts { count_of_distincts aggs.now < length dicts.now }
+                requires few_dims { length dicts.now ≤ count_of_distincts aggs.now + 64 }
+                requires forms { forms.now ≡ map (λ agg. form_of_kind agg.kind) aggs.now }
+                requires few { length rows.now.now ≤ most_items }
+                ensures { IfOk result (IsBase aggs.entry.now dicts.entry.now rows.now.now) }
+            { piece(alloc, dicts, aggs, forms, rows) },
+        )
+        .collect::<Vec<_>>(rt, alloc)?;
+    all_made(alloc, made)
 }
 
 // The rows of tables, gathered by their whole keys.
@@ -156,7 +168,7 @@ fn joined<L: Ledger>(
 /// column and then one for each COUNT_DISTINCT, in order. The rows are cut into at most so many pieces, and the answer is
 /// the same for every number of them. A row that has no number in the column of a SUM, MIN or MAX counts as 0 there.
 pub fn base<R: Threads + Sync>(
-    _rt: &R,
+    rt: &R,
     alloc: Global,
     flat: &FlatRows,
     dicts: &DictSet,
@@ -169,10 +181,14 @@ pub fn base<R: Threads + Sync>(
     requires few { length flat.now ≤ most_items }
     ensures { IfOk result (IsBase forms.now dicts.now flat.now) }
 {
+    let rows = flat.rows();
     let kinds = forms_of(alloc, forms)?;
-    let size = flat.len() / pieces as usize + 1;
-    let parts = cut(alloc, flat.rows(), size)?;
-    let tables = tables_of(alloc, dicts, forms, &kinds, &parts)?;
+    if pieces == 1 {
+        return piece(alloc, dicts, forms, &kinds, rows);
+    }
+    let size = rows.len().saturating_sub(1) / pieces as usize + 1;
+    let parts = cut(alloc, rows, size)?;
+    let tables = tables_of(rt, alloc, dicts, forms, &kinds, &parts)?;
     let mask = base_mask(dicts.len() - distincts(forms));
     joined::<Brand>(alloc, mask, &kinds, &tables, Blank::new(1))
 }

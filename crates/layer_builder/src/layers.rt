@@ -5,9 +5,11 @@ ghost use Rattle.std.specs.List.{AllZip};
 ghost use Rattle.agg_group.specs.Mask.{IsWithin};
 ghost use Rattle.layer_builder.specs.Layers.{HasParent, IsRegrouped, IsWanted};
 
+use crate::made::all_made;
 use agg_group::Mask;
 use cell_gather::{add_rows, gather, kept_dims};
 use cell_store::{CellTable, Steps};
+use rayon::prelude::*;
 use std::alloc::{AllocError, Global};
 use std::marker::Brand;
 use std::sync::ledger::{Blank, Ledger};
@@ -55,9 +57,18 @@ fn regroup_uncounted<L: Ledger>(
     regroup(alloc, parent, mask, &mut steps)
 }
 
-/// The cuboids that are wanted, in order, each from its parent.
+// The wanted cuboid.
+fn wanted(alloc: Global, parents: &[CellTable], want: Want) -> Result<CellTable, AllocError>
+    requires { HasParent parents.now want }
+    ensures { IfOk result (IsWanted parents.now want) }
+{
+    let parent = &parents[want.parent];
+    regroup_uncounted::<Brand>(alloc, parent, want.mask, Blank::new(1))
+}
+
+/// The cuboids that are wanted, in order, each from its parent. They are made in at most so many pieces.
 pub fn layer<R: Threads + Sync>(
-    _rt: &R,
+    rt: &R,
     alloc: Global,
     parents: &[CellTable],
     wants: &[Want],
@@ -67,10 +78,16 @@ pub fn layer<R: Threads + Sync>(
     requires wants { All (HasParent parents.now) wants.now }
     ensures { IfOk result (λ tables. AllZip (IsWanted parents.now) wants.now tables.items) }
 {
-    let mut tables = Vec::new(alloc);
-    for want in wants {
-        let parent = &parents[want.parent];
-        tables.push(regroup_uncounted::<Brand>(alloc, parent, want.mask, Blank::new(1))?)?;
-    }
-    Ok(tables)
+    let size = wants.len().saturating_sub(1) / pieces as usize + 1;
+    let made = wants
+        .par_iter()
+        .with_min_len(size)
+        .map(
+            move |want: &Want| -> Result<CellTable, AllocError>
+                requires { HasParent parents.now want.now }
+                ensures { IfOk result (IsWanted parents.entry.now want.now) }
+            { wanted(alloc, parents, *want) },
+        )
+        .collect::<Vec<_>>(rt, alloc)?;
+    all_made(alloc, made)
 }

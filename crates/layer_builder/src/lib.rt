@@ -1,20 +1,24 @@
 //! Cuboids: the base from the rows of a segment, and each smaller one from a larger one.
 //!
 //! The crate stands on rows and aggregates (`plain_answer`), on dictionaries (`dim_dictionary`), cell tables (`cell_store`)
-//! and rows gathered by keys (`cell_gather`). It knows neither descriptors nor step files.
+//! and rows gathered by keys (`cell_gather`), and on `rayon` for work in pieces. It knows neither descriptors nor step files.
 //!
 //! At its boundary: `base` is the aggregate of the rows by all rowkey columns, in dictionary numbers, and the same for
 //! every number of pieces. `regroup` gathers a table's rows by some of its dimensions, in as many steps as there are
-//! rows. So, by the law of `cell_gather::gathered_cells`, a table that is regrouped from the base, at once or by way of
-//! others, is the aggregate of the same rows.
+//! rows, and `layer` makes many cuboids so. By `cuboids_of_rows` a table that is regrouped from the base, at once or by way
+//! of others, is the aggregate of the same rows.
 //!
-//! The modules: `keys`: keys of rows; `cells`: the cells of a row alone; `base_cuboid`: the base cuboid; `layers`: smaller ones.
+//! The modules: `keys`: keys of rows; `cells`: the cells of a row alone; `base_cuboid`: the base cuboid; `layers`: smaller ones;
+//! `made`: the results of pieces; `laws`: what the tables are of the rows.
 #![tactic(auto)]
 
 mod base_cuboid;
 mod cells;
 mod keys;
+mod laws;
 mod layers;
+mod made;
 
 pub use base_cuboid::base;
+pub use laws::cuboids_of_rows;
 pub use layers::{Want, layer, regroup};

@@ -1,38 +1,38 @@
-use Rattle.std.proofs.Common.{◌≡◌, ◌+◌, ◌∷◌, ◌++◌, ◌∙◌, [], List, ap, arith, get_or, length, subst, sym, take, take_all}
+use Rattle.std.proofs.Common.{◌≡◌, ◌≤◌, ◌∙◌, List, ap, arith, get_or, length}
 use Rattle.std.specs.Borrow.{Bor}
+use Rattle.std.specs.Prelude.{IfOk}
 use Rattle.std.specs.List.{AllZip}
-use Rattle.std.proofs.lemmas.List.{take_more}
-use Rattle.std.proofs.lemmas.Slice.Zip.{all_zipped_more}
+use Rattle.rayon.proofs.ListFacts.{IfOk-then}
+use Rattle.rayon.proofs.ToStd.{slice-AllZip}
 use Rattle.cell_store.specs.Cells.{CellRows}
 use Rattle.cube_val.specs.declared.val.Val.{Val}
+use Rattle.measure_laws.specs.Measures.{most_items}
 use Rattle.layer_builder.specs.Base.{IsBase}
+use Rattle.layer_builder.proofs.MadeFacts.{all_there}
 use Rattle.layer_builder.proofs.PieceFacts.{part_short}
 use Rattle.layer_builder.proofs.base_cuboid.tables_of.Goals as goal
 
 abbrev Piece : Type 0
 Piece = Bor (List (List Val))
 
-pub piece-requires : goal.piece-requires
-piece-requires c =
+pub collect-requires-clause-ready : goal.collect-requires-clause-ready
+collect-requires-clause-ready g c κs within =
     let pieces = c.args.pieces.now in
-    let piece : Piece → List (List Val) = λ p. p.now in
-    let short = part_short piece pieces c.loop-rows.rows-index c.rows-item.result c.loop-rows-test.true in
-    let same : length c.rows-item.result.now ≡ length (get_or pieces c.loop-rows.rows-index c.rows-item.result).now = ap (λ (p : Piece). length p.now) c.rows-item.is in
-    record { dicts = c.requires.dicts; few_dims = c.requires.few_dims; forms = c.requires.forms; few = omega (arith, same, short, c.requires.few) }
-
-pub loop-rows-preserved : goal.loop-rows-preserved
-loop-rows-preserved c =
-    let pieces = c.args.pieces.now in
-    let i = c.loop-rows.rows-index in
-    let p = c.rows-item.result in
-    let tables = c.loop-rows.tables.items in
-    let table : CellRows = c.in_ok-piece.field-0 in
-    let Of : Piece → CellRows → Type 0 = λ q t. IsBase c.args.aggs.now c.args.dicts.now q.now t in
-    let more : take (i + 1) pieces ≡ take i pieces ++ p ∷ [] = take_more pieces i p c.loop-rows-test.true ∙ ap (λ (q : Piece). take i pieces ++ q ∷ []) (sym c.rows-item.is) in
-    let next = all_zipped_more Of (take i pieces) tables p table c.loop-rows.invariant c.in_ok-piece.ensures in
-    subst (λ (l : List CellRows). AllZip Of (take (i + 1) pieces) l) (sym c.in_ok-push.ensures.items) (subst (λ (l : List Piece). AllZip Of l (tables ++ table ∷ [])) (sym more) next)
+    let rows : Piece → List (List Val) = λ p. p.now in
+    let slice : c.map.result.base.base.slice.now ≡ pieces = ap (λ it. it.base.slice.now) c.map.ensures.base ∙ (ap (λ it. it.slice.now) c.with_min_len.ensures.base ∙ c.par_iter.ensures) in
+    rw (c.map.ensures.f, slice)
+    (λ k d lt x is.
+    let short = part_short rows pieces k d lt in
+    let same : length x.now.now ≡ length (get_or pieces k d).now = ap (λ (p : Piece). length p.now) is in
+    let few : length x.now.now ≤ most_items = omega (arith, same, short, c.requires.few) in
+    ((c.requires.dicts, (c.requires.few_dims, (c.requires.forms, few))), λ y p. tt))
 
 pub returns : goal.returns
-returns c =
-    let Of : Piece → CellRows → Type 0 = λ q t. IsBase c.args.aggs.now c.args.dicts.now q.now t in
-    subst (λ (l : List Piece). AllZip Of l c.loop-rows.tables.items) (take_all c.loop-rows.rows-index c.args.pieces.now (omega arith)) c.loop-rows.invariant
+returns g c =
+    let pieces = c.args.pieces.now in
+    let Of : Piece → CellRows → Type 0 = λ p t. IsBase c.args.aggs.now c.args.dicts.now p.now t in
+    let slice = ap (λ it. it.base.slice.now) c.map.ensures.base ∙ (ap (λ it. it.slice.now) c.with_min_len.ensures.base ∙ c.par_iter.ensures) in
+    let made = c.in_ok-made.ensures in
+    let chain = rw c.map.ensures.f at made.1 in
+    let each : AllZip (λ p r. IfOk r (Of p)) pieces c.in_ok-made.made.items = rw made.2 (slice-AllZip chain.0 pieces (chain.1 ∙ slice) (λ p r. IfOk r (Of p)) made.0 chain.2) in
+    IfOk-then c.all_made.result _ _ c.all_made.ensures (λ tables h. all_there Of pieces _ tables.items each h)
