@@ -1,4 +1,5 @@
+pub mod CellFacts
 pub mod FileFacts
-pub mod GroupFacts
+pub mod ImageFacts
 pub mod TableFacts
 pub mod WordFacts

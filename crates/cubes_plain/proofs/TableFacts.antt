@@ -1,20 +1,14 @@
 -- Facts about the rows of a table of `fold`.
 use Rattle.std.proofs.Common.{◌≡◌, ◌≢◌, ℕ, List, [], ◌∷◌, true, refl, sym, length, get_or, arith}
 use Rattle.std.specs.List.{All, AllByRecursion, AllZip}
-use Rattle.std.proofs.lemmas.List.Elements.{All-from_recursion, recursion_from_All}
-use Rattle.aggregation.specs.Groups.{aggregate}
-use Rattle.aggregation.proofs.GroupFacts.{all_grouped}
-use Rattle.cube_val.proofs.OrderFacts.{val_cmp_exact}
-use Rattle.cube_val.specs.Order.{val_cmp}
-use Rattle.cube_val.specs.OrderLaws.{val_cmp_total}
+use Rattle.std.proofs.lemmas.List.Elements.{All-from_recursion}
 use Rattle.cube_val.specs.Values.{FitsType, Writes}
 use Rattle.cube_val.specs.declared.val.ColType.TheVariants as ty
 use Rattle.cube_val.specs.declared.val.Val.{Val}
 use Rattle.cube_val.specs.declared.val.Val.TheVariants.{Null, Int, Text}
-use Rattle.measure_laws.specs.Measures.{Summed, summed}
 use Rattle.table_reader.specs.Columns.{columns_of}
 use Rattle.table_reader.specs.Rows.{IsRowOf}
-use Rattle.cubes_plain.specs.Rows.{IsFactRow, IsInt, d1_of, item_of}
+use Rattle.cubes_plain.specs.Rows.{IsFactRow, IsInt}
 use Rattle.cubes_plain.specs.Tables.{IsFoldTable, fold_form}
 
 -- a list of two items, read one by one
@@ -51,13 +45,3 @@ fact_rows header (x ∷ records) (r ∷ rows) h = (fact_row header x r h.0, fact
 
 pub table_rows : (bytes : List ℕ) (rows : List (List Val)) → IsFoldTable bytes rows → All IsFactRow rows
 table_rows bytes rows t = All-from_recursion IsFactRow rows (fact_rows t.header t.records rows t.rows_are.written)
-
-first_fits : (rows : List (List Val)) → AllByRecursion IsFactRow rows → AllByRecursion (λ row. FitsType ty.Text (d1_of row)) rows
-first_fits [] all = tt
-first_fits (r ∷ rows) all = (all.0.1, first_fits rows all.1)
-
--- the key of each group of rows is a text or null
-pub keys_fit : (rows : List (List Val)) → All IsFactRow rows → All (λ (g : Val × Summed). FitsType ty.Text g.0) (aggregate val_cmp d1_of item_of summed rows)
-keys_fit rows facts =
-    All-from_recursion (λ (g : Val × Summed). FitsType ty.Text g.0) (aggregate val_cmp d1_of item_of summed rows)
-    (all_grouped val_cmp_total val_cmp_exact (FitsType ty.Text) d1_of item_of summed rows (first_fits rows (recursion_from_All IsFactRow rows facts)))

@@ -1,3 +1,4 @@
+pub mod Cuboids
 pub mod Descriptors
 pub mod Examples
 pub mod Files

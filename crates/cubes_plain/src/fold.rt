@@ -1,17 +1,46 @@
-// The text of `fold`: the count and the sum of `M` by `D1`.
+// The text of `fold`: the count and the sum of `M` by `D1`, from cuboids.
 
-ghost use Rattle.std.specs.Prelude.{◌≡◌, ◌≤◌, IfOk, length, map, All};
+ghost use Rattle.std.specs.Prelude.{◌≡◌, ◌<◌, ◌^◌, ◌∷◌, [], ◌++◌, IfOk, length, map, All, slice_index_or};
+ghost use Rattle.std.specs.List.{flat_map};
+ghost use Rattle.agg_group.specs.Mask.{IsWithin};
+ghost use Rattle.cell_gather.specs.Gathers.{gathered};
+ghost use Rattle.cell_gather.specs.Keys.{part_of};
+ghost use Rattle.cell_store.specs.Cells.{form_of};
+ghost use Rattle.cell_store.specs.declared.cell.Cell.TheVariants as cell;
 ghost use Rattle.cube_val.specs.Values.{FitsType};
 ghost use Rattle.cube_val.specs.declared.val.ColType.TheVariants as ty;
-ghost use Rattle.cubes_plain.specs.Folds.{csv_line, fold_text, group_line};
+ghost use Rattle.cubes_plain.specs.Cuboids.{IsSumRow, d1_alone, dicts_of, row_line, sum_in, sum_of_m};
+ghost use Rattle.cubes_plain.specs.Folds.{csv_line, fold_text, group_line, header_line};
 ghost use Rattle.cubes_plain.specs.Rows.{IsFactRow};
-ghost use Rattle.measure_laws.specs.Measures.{most_items};
+ghost use Rattle.layer_builder.specs.Base.{IsBase};
+ghost use Rattle.measure_laws.specs.declared.measure.MeasureForm.TheVariants as form;
 
-use crate::cells::cells_by_d1;
+use crate::dictionaries::dictionaries;
+use agg_group::Mask;
+use cell_store::{Cell, CellTable, Steps};
 use csv::WriterBuilder;
-use cube_val::{ColType, Table, Val, val_text};
+use cube_val::{ColType, Row, Val, val_text};
+use dim_dictionary::{Dict, DictSet};
+use layer_builder::{base, regroup};
 use measure_laws::Sum;
+use plain_answer::{Agg, AggKind, FlatRows};
 use std::alloc::{AllocError, Global};
+use std::marker::Brand;
+use std::sync::ledger::{Blank, Ledger};
+use std::thread::Threads;
+
+// The dimension D1 alone.
+const D1: Mask = Mask(1);
+
+// The sum of M, which knows of how many rows it is.
+const SUM_OF_M: Agg = Agg {
+    kind: AggKind::Sum,
+    column: Some(2),
+    ty: ColType::Int,
+};
+
+// Into how many pieces the rows are cut, which threads may work on at once.
+const PIECES: u32 = 8;
 
 // The line of a record, as `csv` writes it.
 fn line_of(alloc: Global, fields: &[&[u8]]) -> Result<Vec<u8>, AllocError>
@@ -38,13 +67,42 @@ fn group_line(alloc: Global, key: &Val, cell: &Sum) -> Result<Vec<u8>, AllocErro
     line_of(alloc, &[name.as_slice(), count.as_bytes(), sum.as_bytes()])
 }
 
-/// The text of `fold` over the rows.
-pub fn fold_text(alloc: Global, table: &Table) -> Result<Vec<u8>, AllocError>
-    requires few { length table.now ≤ most_items }
-    requires rows { All IsFactRow table.now }
-    ensures { IfOk result (λ text. text.items ≡ fold_text table.now) }
+// The sum in a cell.
+fn sum_in(cell: &Cell) -> &Sum
+    requires { form_of cell.now ≡ form.Sum }
+    ensures { result.now ≡ sum_in cell.now }
 {
-    let cells = cells_by_d1::<Sum>(alloc, table)?;
+    match cell {
+        Cell::Sum(sum) => sum,
+        Cell::Count(_) => unreachable!(),
+        Cell::Min(_) => unreachable!(),
+        Cell::Max(_) => unreachable!(),
+        Cell::Distinct(_) => unreachable!(),
+    }
+}
+
+// The line of a row of the cuboid of D1.
+fn row_line(alloc: Global, dict: &Dict, key: &[u32], cells: &[Cell]) -> Result<Vec<u8>, AllocError>
+    requires row { IsSumRow dict.now (key.now, cells.now) }
+    requires texts { All (FitsType ty.Text) dict.now }
+    ensures { IfOk result (λ line. line.items ≡ row_line dict.now (key.now, cells.now)) }
+{
+    let value = dict.value(key[0]);
+    let sum = sum_in(&cells[0]);
+    group_line(alloc, value, sum)
+}
+
+// The header, and the lines of the cuboid of D1.
+fn text_of_cuboid<L: Ledger>(
+    alloc: Global,
+    dict: &Dict,
+    cuboid: &CellTable,
+    steps: &mut Steps<L>,
+) -> Result<Vec<u8>, AllocError>
+    requires rows { All (IsSumRow dict.now) cuboid.now.rows }
+    requires texts { All (FitsType ty.Text) dict.now }
+    ensures { IfOk result (λ text. text.items ≡ header_line ++ flat_map (row_line dict.now) cuboid.now.rows) }
+{
     let mut text = line_of(
         alloc,
         &[
@@ -53,9 +111,59 @@ pub fn fold_text(alloc: Global, table: &Table) -> Result<Vec<u8>, AllocError>
             b"SUM(M)".as_slice(),
         ],
     )?;
-    for (key, cell) in &cells {
-        let line = group_line(alloc, key, cell)?;
+    for i in 0..cuboid.len() {
+        let (key, cells) = cuboid.row(i, steps);
+        let line = row_line(alloc, dict, key, cells)?;
         text.extend_from_slice(line.as_slice())?;
     }
     Ok(text)
+}
+
+// The text from the base cuboid, of which the cuboid of D1 is regrouped. Nobody counts the steps.
+fn text_of_base<L: Ledger>(
+    alloc: Global,
+    dict: &Dict,
+    base: &CellTable,
+    blank: Blank,
+) -> Result<Vec<u8>, AllocError>
+    requires blank { (blank.name ≡ L.name) × (blank.parts ≡ L.parts) × (0 < L.parts) }
+    requires within { IsWithin d1_alone base.now.mask }
+    requires rows { All (IsSumRow dict.now) (gathered base.now.forms (part_of base.now.mask d1_alone) base.now.rows) }
+    requires texts { All (FitsType ty.Text) dict.now }
+    ensures { IfOk result (λ text. text.items ≡ header_line ++ flat_map (row_line dict.now) (gathered base.now.forms (part_of base.now.mask d1_alone) base.now.rows)) }
+{
+    let mut steps = Steps::<L>::new(blank);
+    let cuboid = regroup(alloc, base, D1, &mut steps)?;
+    text_of_cuboid(alloc, dict, &cuboid, &mut steps)
+}
+
+// The base cuboid of D1 and D2. The rows are not kept.
+fn base_of<R: Threads + Sync>(
+    rt: &R,
+    alloc: Global,
+    flat: FlatRows,
+    dicts: &DictSet,
+) -> Result<CellTable, AllocError>
+    requires few { length flat < 2 ^ 32 }
+    requires dicts { dicts.now ≡ dicts_of flat }
+    ensures { IfOk result (IsBase (sum_of_m ∷ []) (dicts_of flat) flat) }
+{
+    base(rt, alloc, &flat, dicts, &[SUM_OF_M], PIECES)
+}
+
+/// The text of `fold` over the rows: the values of D1 and D2 are numbered, the rows aggregated by both, and the cells of each
+/// D1 merged.
+pub fn fold_text<R: Threads + Sync>(
+    rt: &R,
+    alloc: Global,
+    rows: Vec<Row>,
+) -> Result<Vec<u8>, AllocError>
+    requires few { length rows.items < 2 ^ 32 }
+    requires rows { All IsFactRow rows.items }
+    ensures { IfOk result (λ text. text.items ≡ fold_text rows.items) }
+{
+    let flat = FlatRows::of(rows);
+    let dicts = dictionaries(alloc, flat.rows())?;
+    let base = base_of(rt, alloc, flat, &dicts)?;
+    text_of_base::<Brand>(alloc, dicts.get(0), &base, Blank::new(1))
 }

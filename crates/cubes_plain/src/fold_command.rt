@@ -17,6 +17,7 @@ use crate::rows::{column_text, kind_text, read_rows};
 use crate::status::{BAD_TABLE, DONE, MEMORY, READ_FAULT, TOO_LARGE, WRITE_FAULT};
 use outside::{FileFault, Files, Sink};
 use std::alloc::Global;
+use std::thread::Threads;
 use table_reader::{TableFault, TableRefusal};
 
 // Why a command has no output.
@@ -29,7 +30,7 @@ enum Fault {
 }
 
 // The text of `fold` over the bytes of a file.
-fn text_of_bytes(alloc: Global, bytes: &[u8]) -> Result<Vec<u8>, Fault>
+fn text_of_bytes<R: Threads + Sync>(rt: &R, alloc: Global, bytes: &[u8]) -> Result<Vec<u8>, Fault>
     ensures ok { IfOk result (λ text. (rows : List (List Val)) × IsFoldTable bytes.now rows × (text.items ≡ fold_text rows)) }
     ensures bad { (f : TableFault) → result ≡ Err (Fault.BadTable f) → IsFoldFault bytes.now f }
     ensures read { result ≢ Err Fault.ReadFault }
@@ -40,14 +41,19 @@ fn text_of_bytes(alloc: Global, bytes: &[u8]) -> Result<Vec<u8>, Fault>
         Err(TableRefusal::Fault(fault)) => return Err(Fault::BadTable(fault)),
         Err(TableRefusal::Memory) => return Err(Fault::Memory),
     };
-    match fold_text(alloc, &rows) {
+    match fold_text(rt, alloc, rows) {
         Ok(text) => Ok(text),
         Err(_) => Err(Fault::Memory),
     }
 }
 
 // The text of `fold` over the file at the path.
-fn fold_output<F: Files>(alloc: Global, path: &str, files: &mut F) -> Result<Vec<u8>, Fault>
+fn fold_output<R: Threads + Sync, F: Files>(
+    rt: &R,
+    alloc: Global,
+    path: &str,
+    files: &mut F,
+) -> Result<Vec<u8>, Fault>
     ensures ok { IfOk result (λ text. (rows : List (List Val)) × AcceptedAt (F.contents files.old) path.now rows × (text.items ≡ fold_text rows)) }
     ensures read { IsErrOf result Fault.ReadFault → Rose (F.faults files.old) (F.faults files.new) }
     ensures read_not_longer { IsErrOf result Fault.ReadFault → IsNotLongerAt (F.contents files.old) path.now most_bytes }
@@ -62,7 +68,7 @@ fn fold_output<F: Files>(alloc: Global, path: &str, files: &mut F) -> Result<Vec
         Err(FileFault::TooLong) => return Err(Fault::TooLarge),
         Err(FileFault::Memory) => return Err(Fault::Memory),
     };
-    text_of_bytes(alloc, bytes.as_slice())
+    text_of_bytes(rt, alloc, bytes.as_slice())
 }
 
 // Writes the fault line of a table, and says the status.
@@ -82,7 +88,13 @@ fn refuse_table<S: Sink>(alloc: Global, sink: &mut S, path: &str, fault: TableFa
 
 /// Writes the counts and sums of the table at the path, and says the status. A fault is answered as every command
 /// answers it; want of memory is free.
-pub fn run_fold<F: Files, S: Sink>(alloc: Global, path: &str, files: &mut F, sink: &mut S) -> u8
+pub fn run_fold<R: Threads + Sync, F: Files, S: Sink>(
+    rt: &R,
+    alloc: Global,
+    path: &str,
+    files: &mut F,
+    sink: &mut S,
+) -> u8
     ensures status { (result ≡ DONE) ⊎ (result ≡ MEMORY) ⊎ (result ≡ READ_FAULT) ⊎ (result ≡ WRITE_FAULT) ⊎ (result ≡ BAD_TABLE) ⊎ (result ≡ TOO_LARGE) }
     ensures done { result ≡ DONE → (rows : List (List Val)) × AcceptedAt (F.contents files.old) path.now rows × AppendsAll (S.written sink.old) (S.written sink.new) (fold_text rows) }
     ensures memory { result ≡ MEMORY → S.written sink.new ≡ S.written sink.old }
@@ -102,7 +114,7 @@ pub fn run_fold<F: Files, S: Sink>(alloc: Global, path: &str, files: &mut F, sin
     ensures contents { F.contents files.new ≡ F.contents files.old }
     ensures write_faults { F.write_faults files.new ≡ F.write_faults files.old }
 {
-    match fold_output(alloc, path, files) {
+    match fold_output(rt, alloc, path, files) {
         Ok(text) => finish(sink, text.as_slice()),
         Err(Fault::Memory) => MEMORY,
         Err(Fault::ReadFault) => refuse_path(alloc, sink, "ReadFault", path, READ_FAULT),

@@ -3,19 +3,19 @@
 //! cube builds.
 //!
 //! The crate stands near the top: the words come from `command_line`; it reads through `outside::Files` and
-//! `table_reader`, keeps rows as `cube_val` has them, aggregates them by `aggregation` and `measure_laws`, has descriptors
+//! `table_reader`, numbers values by `dim_dictionary`, makes cuboids of rows by `layer_builder`, has descriptors
 //! from `cube_desc` and the lines of their cuboids from `cuboid_lines`, and writes through `outside::Sink`. The modules:
-//! `rows` (the bytes of a file to rows, by `table_reader`), `cells` (the rows to the cuboid by D1, by way of the cells by
-//! both columns, one D1 after another), `fold` (the cells to text), `fold_command` and `cuboids` (the commands over a path),
-//! `output` (what every command writes) and `plain` (the top call).
+//! `rows` (the bytes of a file to rows, by `table_reader`), `dictionaries` (the numbers of D1 and of D2), `fold` (the base
+//! cuboid of both, the cuboid of D1 regrouped from it, and its text), `fold_command` and `cuboids` (the commands over a
+//! path), `output` (what every command writes) and `plain` (the top call).
 //!
 //! The invariant at its boundary is the contract of `run_plain`: which status comes when, and what was written then.
 //! Each status but that of want of memory has its one cause; a fault of a read or a write is answered only where the
 //! count of the files or of the sink rose.
 #![tactic(auto)]
 
-mod cells;
 mod cuboids;
+mod dictionaries;
 mod examples;
 mod fold;
 mod fold_command;

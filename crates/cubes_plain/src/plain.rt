@@ -56,8 +56,8 @@ fn plain_order(alloc: Global, words: &[String]) -> Result<PlainOrder, WordsRefus
 /// Runs a command that runs no jobs, and says its status, one of those in `status`. The words do not hold the
 /// program's own name. A command reads its file, then works, then writes its output in one piece; where it has no
 /// output it writes one fault line. Want of memory is free: its status may stand in place of every other one.
-pub fn run_plain<R: Threads, F: Files, S: Sink>(
-    _rt: &R,
+pub fn run_plain<R: Threads + Sync, F: Files, S: Sink>(
+    rt: &R,
     alloc: Global,
     words: &[String],
     files: &mut F,
@@ -126,7 +126,7 @@ pub fn run_plain<R: Threads, F: Files, S: Sink>(
     ensures write_faults { F.write_faults files.new ≡ F.write_faults files.old }
 {
     match plain_order(alloc, words) {
-        Ok(PlainOrder::Fold(path)) => run_fold(alloc, path.as_str(), files, sink),
+        Ok(PlainOrder::Fold(path)) => run_fold(rt, alloc, path.as_str(), files, sink),
         Ok(PlainOrder::Cuboids(path)) => run_cuboids(alloc, path.as_str(), files, sink),
         Err(WordsRefusal::BadWords) => refuse(sink, b"fault: BadWords\n", BAD_WORDS),
         Err(WordsRefusal::Memory) => MEMORY,

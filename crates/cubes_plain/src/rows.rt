@@ -4,9 +4,9 @@ ghost use Rattle.std.specs.Prelude.{◌≡◌, Err, IfOk};
 ghost use Rattle.cubes_plain.specs.Tables.{IsFoldFault, IsFoldTable, column, column_text, fold_form, kind_text};
 ghost use Rattle.table_reader.specs.declared.fault.TableFault.{TableFault};
 
-use cube_val::{ColDesc, ColType, Items, NameText, Table, TableForm};
+use cube_val::{ColDesc, ColType, Items, NameText, Row, TableForm};
 use std::alloc::{AllocError, Global};
-use table_reader::{TableFault, TableKind, TableRefusal, read_table};
+use table_reader::{TableFault, TableKind, TableRefusal};
 
 // A column of the form.
 fn column(alloc: Global, name: &[u8], ty: ColType) -> Result<ColDesc, AllocError>
@@ -36,14 +36,14 @@ fn fold_form(alloc: Global) -> Result<TableForm, AllocError>
 }
 
 /// The rows of a table file with the columns `D1`, `D2` and `M`.
-pub fn read_rows(alloc: Global, bytes: &[u8]) -> Result<Table, TableRefusal>
-    ensures ok { IfOk result (λ table. IsFoldTable bytes.now table) }
+pub fn read_rows(alloc: Global, bytes: &[u8]) -> Result<Vec<Row>, TableRefusal>
+    ensures ok { IfOk result (λ rows. IsFoldTable bytes.now rows.items) }
     ensures fault { (f : TableFault) → result ≡ Err (TableRefusal.Fault f) → IsFoldFault bytes.now f }
 {
     let Ok(form) = fold_form(alloc) else {
         return Err(TableRefusal::Memory);
     };
-    read_table(alloc, &form, bytes)
+    table_reader::read_rows(alloc, &form, bytes)
 }
 
 /// The name of a column in a fault line, or a dash for none.

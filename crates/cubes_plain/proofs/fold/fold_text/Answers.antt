@@ -1,26 +1,48 @@
-use Rattle.std.proofs.Common.{◌≡◌, ◌++◌, take, arith, ap, sym, subst, ◌∙◌}
-use Rattle.std.specs.List.{All, flat_map}
-use Rattle.std.proofs.lemmas.List.{take_all}
-use Rattle.std.proofs.lemmas.List.Elements.{All-get_or}
-use Rattle.measure_laws.specs.Measures.{Summed, summed}
-use Rattle.aggregation.specs.Groups.{aggregate}
-use Rattle.cube_val.specs.Order.{val_cmp}
+use Rattle.std.proofs.Common.{◌≡◌, ◌++◌, ◌∷◌, ◌∙◌, [], ℕ, List, Some, All, ap, arith, map, refl, subst, sym}
+use Rattle.std.specs.List.{flat_map, slice_get}
+use Rattle.std.proofs.lemmas.Result.{IfOk-weaker}
+use Rattle.cell_gather.specs.Gathers.{gathered}
+use Rattle.cell_gather.specs.Keys.{part_of}
+use Rattle.cell_store.specs.declared.cell.Cell.{Cell}
 use Rattle.cube_val.specs.Values.{FitsType}
 use Rattle.cube_val.specs.declared.val.ColType.TheVariants as ty
 use Rattle.cube_val.specs.declared.val.Val.{Val}
-use Rattle.cubes_plain.specs.Folds.{group_line, header_line}
-use Rattle.cubes_plain.specs.Rows.{d1_of, item_of}
-use Rattle.cubes_plain.proofs.TableFacts.{keys_fit}
+use Rattle.layer_builder.specs.Base.{IsBase}
+use Rattle.cubes_plain.specs.Cuboids.{IsSumRow, column_dict, d1_alone, dicts_of, row_line, sum_of_m}
+use Rattle.cubes_plain.specs.Folds.{header_line}
+use Rattle.cubes_plain.proofs.CellFacts.{cuboid_lines, cuboid_rows, dict_fits, groups_by_d1, numbered, regrouped_groups}
 use Rattle.cubes_plain.proofs.fold.fold_text.Goals as goal
 
-pub group_line-requires : goal.group_line-requires
-group_line-requires c =
-    let items : c.deref-key-items.result.now ≡ aggregate val_cmp d1_of item_of summed c.args.table.now = c.deref-key-items.ensures.value ∙ c.in_ok-cells.ensures in
-    let fit : All (λ (g : Val × Summed). FitsType ty.Text g.0) c.deref-key-items.result.now = rw items (keys_fit c.args.table.now c.requires.rows) in
-    subst (λ (g : Val × Summed). FitsType ty.Text g.0) (sym c.loop-key-item.is) (All-get_or (λ (g : Val × Summed). FitsType ty.Text g.0) c.deref-key-items.result.now c.loop-key.key-index c.loop-key-item.result c.loop-key-test.true fit)
+pub text_of_base-requires-clause-blank : goal.text_of_base-requires-clause-blank
+text_of_base-requires-clause-blank g c = (refl, refl, omega (arith, c.new.ensures))
+
+pub text_of_base-requires-clause-rows : goal.text_of_base-requires-clause-rows
+text_of_base-requires-clause-rows g c =
+    let rows = c.args.rows.items in
+    let table = c.in_ok-base.base in
+    let dict = column_dict rows 0 in
+    let dicts : c.in_ok-dicts.dicts ≡ dicts_of rows = c.in_ok-dicts.ensures ∙ ap dicts_of (c.rows.ensures ∙ c.of-flat.ensures) in
+    let at : Some dict ≡ Some c.get.result.now = ap (λ l. slice_get l 0) (sym dicts) ∙ c.get.ensures in
+    let first : dict ≡ c.get.result.now = cc at in
+    let is : IsBase (sum_of_m ∷ []) (dicts_of rows) rows table = subst (λ (f : List (List Val)). IsBase (sum_of_m ∷ []) (dicts_of f) f table) c.of-flat.ensures c.in_ok-base.ensures in
+    subst (λ (l : List (List ℕ × List Cell)). All (IsSumRow c.get.result.now) l) (sym (regrouped_groups rows table is))
+    (subst (λ (d : List Val). All (IsSumRow d) (map (numbered dict) (groups_by_d1 rows))) first (cuboid_rows rows))
+
+pub text_of_base-requires-clause-texts : goal.text_of_base-requires-clause-texts
+text_of_base-requires-clause-texts g c =
+    let rows = c.args.rows.items in
+    let dicts : c.in_ok-dicts.dicts ≡ dicts_of rows = c.in_ok-dicts.ensures ∙ ap dicts_of (c.rows.ensures ∙ c.of-flat.ensures) in
+    let at : Some (column_dict rows 0) ≡ Some c.get.result.now = ap (λ l. slice_get l 0) (sym dicts) ∙ c.get.ensures in
+    let first : column_dict rows 0 ≡ c.get.result.now = cc at in
+    subst (λ (d : List Val). All (FitsType ty.Text) d) first (dict_fits rows c.requires.rows)
 
 pub returns : goal.returns
-returns c =
-    let items : c.deref-key-items.result.now ≡ aggregate val_cmp d1_of item_of summed c.args.table.now = c.deref-key-items.ensures.value ∙ c.in_ok-cells.ensures in
-    let all : take c.loop-key.key-index c.deref-key-items.result.now ≡ c.deref-key-items.result.now = take_all _ _ (omega arith) in
-    c.loop-key.invariant ∙ ap (λ l. header_line ++ flat_map group_line l) (all ∙ items)
+returns g c =
+    let rows = c.args.rows.items in
+    let table = c.in_ok-base.base in
+    let dicts : c.in_ok-dicts.dicts ≡ dicts_of rows = c.in_ok-dicts.ensures ∙ ap dicts_of (c.rows.ensures ∙ c.of-flat.ensures) in
+    let at : Some (column_dict rows 0) ≡ Some c.get.result.now = ap (λ l. slice_get l 0) (sym dicts) ∙ c.get.ensures in
+    let first : column_dict rows 0 ≡ c.get.result.now = cc at in
+    let is : IsBase (sum_of_m ∷ []) (dicts_of rows) rows table = subst (λ (f : List (List Val)). IsBase (sum_of_m ∷ []) (dicts_of f) f table) c.of-flat.ensures c.in_ok-base.ensures in
+    let groups = regrouped_groups rows table is in
+    IfOk-weaker c.text_of_base.result _ _ (λ text h. h ∙ (λ i. header_line ++ flat_map (row_line (sym first i)) (groups i)) ∙ ap (λ l. header_line ++ l) (cuboid_lines rows)) c.text_of_base.ensures
