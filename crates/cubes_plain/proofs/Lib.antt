@@ -1,4 +1,5 @@
 pub mod FileFacts
 pub mod GroupFacts
+pub mod StepFacts
 pub mod TableFacts
 pub mod WordFacts
