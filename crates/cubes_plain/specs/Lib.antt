@@ -5,5 +5,7 @@ pub mod Files
 pub mod Folds
 pub mod Outputs
 pub mod Rows
+pub mod StepExamples
+pub mod Steps
 pub mod Tables
 pub mod Words

@@ -26,6 +26,12 @@ read_fault_line path = codes "fault: ReadFault " ++ path ++ 10 ∷ []
 abbrev pub too_large_line : List ℕ → List ℕ
 too_large_line path = codes "fault: TooLarge " ++ path ++ 10 ∷ []
 
+abbrev pub stopped_line : List ℕ
+stopped_line = codes "fault: Stopped" ++ 10 ∷ []
+
+abbrev pub bad_task_line : List ℕ
+bad_task_line = codes "fault: BadTask" ++ 10 ∷ []
+
 -- the path, the number of the record, the column or a dash, and the kind
 abbrev pub bad_table_line : List ℕ → TableFault → List ℕ
 bad_table_line path fault =

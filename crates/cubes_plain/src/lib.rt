@@ -1,17 +1,19 @@
 //! The commands that run no jobs. `fold PATH` reads a CSV file with the header `D1,D2,M` and writes, for each D1 in
 //! order, how many rows it has and the sum of their M. `cuboids PATH` reads a descriptor and writes which cuboids its
-//! cube builds.
+//! cube builds. `step TASK PRODUCT STOP` is the child of a run: it reads a task file, does its work and writes the product
+//! file, unless something stands at the stop path.
 //!
 //! The crate stands near the top: the words come from `command_line`; it reads through `outside::Files` and
 //! `table_reader`, numbers values by `dim_dictionary`, makes cuboids of rows by `layer_builder`, has descriptors
 //! from `cube_desc` and the lines of their cuboids from `cuboid_lines`, and writes through `outside::Sink`. The modules:
 //! `rows` (the bytes of a file to rows, by `table_reader`), `dictionaries` (the numbers of D1 and of D2), `fold` (the base
-//! cuboid of both, the cuboid of D1 regrouped from it, and its text), `fold_command` and `cuboids` (the commands over a
-//! path), `output` (what every command writes) and `plain` (the top call).
+//! cuboid of both, the cuboid of D1 regrouped from it, and its text), `fold_command`, `cuboids` and `step` (the commands
+//! over their paths), `output` (what every command writes) and `plain` (the top call). Which bytes are tasks, and what their
+//! products are, comes in as a type, an `outside::StepWork`.
 //!
 //! The invariant at its boundary is the contract of `run_plain`: which status comes when, and what was written then.
 //! Each status but that of want of memory has its one cause; a fault of a read or a write is answered only where the
-//! count of the files or of the sink rose.
+//! count of the files or of the sink rose. No command changes a file but `step`, which changes its product's alone.
 #![tactic(auto)]
 
 mod cuboids;
@@ -23,11 +25,17 @@ mod output;
 mod plain;
 mod rows;
 pub mod status;
+mod step;
+mod step_examples;
 
 pub use examples::worked_examples;
 pub use output::{refuse, refuse_path};
 pub use plain::run_plain;
 pub use rows::kind_text;
+pub use step::run_step_file;
+pub use step_examples::worked_steps;
 
+#[cfg(test)]
+mod step_tests;
 #[cfg(test)]
 mod tests;

@@ -1,4 +1,4 @@
--- What words leave that are no run: what `run_plain` says of them.
+-- What words leave that are no run and no step: what `run_plain` says of them.
 use Rattle.std.specs.Prelude.{◌≡◌, ◌⊎◌, ℕ, List}
 use Rattle.std.specs.declared.alloc.Global.{Global}
 use Rattle.std.specs.declared.string.String.{String}

@@ -1,7 +1,7 @@
 // Scripts and other words, and what is written for them.
 
 use crate::{BAD_SCRIPT, Ran, run};
-use cubes_plain::status::{BAD_TABLE, BAD_WORDS, DONE, READ_FAULT, WRITE_FAULT};
+use cubes_plain::status::{BAD_TABLE, BAD_TASK, BAD_WORDS, DONE, READ_FAULT, WRITE_FAULT};
 use fixed_cube::SmallWork;
 use outside::{
     Entry, Fate, Fated, Hand, LyingHand, MemoryFiles, MemoryHand, MemorySink, MemoryStopper,
@@ -249,7 +249,7 @@ fn faults_have_their_status_and_line(rt: HostRuntime) -> Result<(), Fail> {
 #[test]
 fn other_words_run_no_job(rt: HostRuntime) -> Result<(), Fail> {
     let alloc = rt.alloc();
-    let table: [(&[&str], u8, &[u8]); 5] = [
+    let table: [(&[&str], u8, &[u8]); 6] = [
         (&["fold", "d"], DONE, b"D1,COUNT(*),SUM(M)\na,2,4\n"),
         (
             &["fold", "s"],
@@ -257,6 +257,7 @@ fn other_words_run_no_job(rt: HostRuntime) -> Result<(), Fail> {
             b"fault: BadTable s 0 D1 MissingColumn\n",
         ),
         (&["cuboids", "t"], READ_FAULT, b"fault: ReadFault t\n"),
+        (&["step", "s", "p", "x"], BAD_TASK, b"fault: BadTask\n"),
         (&["demo", "1", "2"], BAD_WORDS, b"fault: BadWords\n"),
         (&[], BAD_WORDS, b"fault: BadWords\n"),
     ];

@@ -5,6 +5,9 @@ ghost use Rattle.coordinator.specs.Coordinator.{AreGiven};
 ghost use Rattle.coordinator.specs.Runs.{IsRunOver, fault_ends, run_ends, status_of};
 ghost use Rattle.coordinator.specs.Served.{inputs_of};
 ghost use Rattle.cubes_plain.specs.Outputs.{bad_words_line};
+ghost use Rattle.cubes_plain.specs.Steps.{IsStepRun, files_at, sink_at};
+ghost use Rattle.cubes_plain.specs.Words.{IsNoStep, IsStep};
+ghost use Rattle.fixed_cube.specs.Tasks.{IsTask, product_of};
 ghost use Rattle.outside.specs.Counts.{Rose};
 ghost use Rattle.outside.specs.Rises.{Risen};
 ghost use Rattle.run_inputs.specs.Laws.{TellsOutcomeAt};
@@ -160,8 +163,14 @@ pub fn run<
         → (result.status ≡ DONE) ⊎ (result.status ≡ MEMORY) }
 
     // Words that are no run: what `run_plain` says of them, and no event.
-    ensures plain { IsNoRun words.now → IsPlain words.now (seen (F.contents files.old) (F.faults files.old) (F.faults files.new) (S.faults sink.old) (S.faults sink.new) (S.written sink.old) (S.written sink.new)) result.status }
+    ensures plain { IsNoRun words.now → IsNoStep words.now → IsPlain words.now (seen (F.contents files.old) (F.faults files.old) (F.faults files.new) (S.faults sink.old) (S.faults sink.new) (S.written sink.old) (S.written sink.new)) result.status }
     ensures no_event { IsNoRun words.now → result.history.items ≡ [] }
+
+    // The word `step`: how it ends over a task of the fixed cube, and the paths that the words say.
+    ensures step { (task product stop : List ℕ) → IsStep words.now task product stop → IsStepRun IsTask product_of
+        (files_at (F.contents files.old) (F.faults files.old) (F.write_faults files.old) (F.seen files.old))
+        (files_at (F.contents files.new) (F.faults files.new) (F.write_faults files.new) (F.seen files.new))
+        (sink_at (S.written sink.old) (S.faults sink.old)) (sink_at (S.written sink.new) (S.faults sink.new)) task product stop result.status }
 
     // Bad words: exactly where the words are no command that one hand serves. More workers than hands are such words.
     ensures bad_words { result.status ≡ BAD_WORDS → AreBadWords words.now }
@@ -170,7 +179,7 @@ pub fn run<
 
     // The causes of faults.
     ensures read_fault { result.status ≡ READ_FAULT → Rose (F.faults files.old) (F.faults files.new) }
-    ensures write_fault { result.status ≡ WRITE_FAULT → Rose (S.faults sink.old) (S.faults sink.new) }
+    ensures write_fault { IsNoStep words.now → result.status ≡ WRITE_FAULT → Rose (S.faults sink.old) (S.faults sink.new) }
 
     // The hands are given back, and their counts cover the ends of steps. Without a run, and where it is refused, none was called.
     ensures back { length result.hands.items ≡ 1 }
@@ -179,14 +188,14 @@ pub fn run<
     ensures runs { Risen H.runs hands.items result.hands.items (run_ends result.history.items) }
     ensures faults { Risen H.faults hands.items result.hands.items (fault_ends result.history.items) }
 
-    // With every status the files stay as they were, and no write of a file failed.
-    ensures contents { F.contents files.new ≡ F.contents files.old }
-    ensures write_faults { F.write_faults files.new ≡ F.write_faults files.old }
+    // With every word but `step` the files stay as they were, and no write of a file failed.
+    ensures contents { IsNoStep words.now → F.contents files.new ≡ F.contents files.old }
+    ensures write_faults { IsNoStep words.now → F.write_faults files.new ≡ F.write_faults files.old }
 {
     match script_path(alloc, words) {
         Ok(Some(path)) => run_at(rt, alloc, path.as_str(), files, hands, stopper, sink),
         Ok(None) => {
-            let status = run_plain(rt, alloc, words, files, sink);
+            let status = run_plain::<SmallWork, R, F, S>(rt, alloc, words, files, sink);
             without_run(alloc, status, hands)
         }
         Err(_) => without_run(alloc, MEMORY, hands),

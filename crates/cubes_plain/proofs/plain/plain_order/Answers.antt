@@ -1,7 +1,7 @@
 use Rattle.std.proofs.Common.{ap, Err}
 use Rattle.std.specs.String.{string_bytes}
 use Rattle.command_line.specs.Words.{bytes_of_words}
-use Rattle.cubes_plain.proofs.WordFacts.{demo_words, other_words, run_words, step_words, unlawful_words}
+use Rattle.cubes_plain.proofs.WordFacts.{demo_words, other_words, run_words, unlawful_words}
 use Rattle.cubes_plain.proofs.plain.plain_order.Goals as goal
 
 pub returns-in-Ok-Run-clause-bad_words : goal.returns-in-Ok-Run-clause-bad_words
@@ -13,11 +13,6 @@ pub returns-in-Ok-Demo-clause-bad_words : goal.returns-in-Ok-Demo-clause-bad_wor
 returns-in-Ok-Demo-clause-bad_words c same =
     let words = c.args.words.now in
     other_words words (demo_words (bytes_of_words words) c.in-Ok-Demo.field-0-0 c.in-Ok-Demo.field-0-1 (rw c.in-Ok-Demo.field-0-is at c.in-Ok-Demo.ensures.ok))
-
-pub returns-in-Ok-Step-clause-bad_words : goal.returns-in-Ok-Step-clause-bad_words
-returns-in-Ok-Step-clause-bad_words c same =
-    let words = c.args.words.now in
-    other_words words (step_words (bytes_of_words words) (string_bytes c.in-Ok-Step.field-0-0) (string_bytes c.in-Ok-Step.field-0-1) (string_bytes c.in-Ok-Step.field-0-2) (rw c.in-Ok-Step.field-0-is at c.in-Ok-Step.ensures.ok))
 
 pub returns-in-Err-BadWords-clause-bad_words : goal.returns-in-Err-BadWords-clause-bad_words
 returns-in-Err-BadWords-clause-bad_words c same =

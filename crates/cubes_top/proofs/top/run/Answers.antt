@@ -8,7 +8,10 @@ use Rattle.cubes_top.specs.Outside.{seen}
 use Rattle.cubes_top.specs.Plain.{IsPlain}
 use Rattle.cubes_top.proofs.PlainFacts.{plain-memory}
 use Rattle.cubes_top.proofs.Refusals.{complete-told, ends_memory, none-risen}
-use Rattle.cubes_top.proofs.RunWords.{one_run}
+use Rattle.cubes_plain.specs.Steps.{IsStepRun, files_at, sink_at}
+use Rattle.cubes_plain.proofs.StepFacts.{step_memory}
+use Rattle.fixed_cube.specs.Tasks.{IsTask, product_of}
+use Rattle.cubes_top.proofs.RunWords.{one_run, step-no_run}
 use Rattle.cubes_top.proofs.top.run.Goals as goal
 
 -- ---- a run
@@ -36,7 +39,10 @@ returns-in-Ok-Some-clause-complete g c = λ path inputs r t none.
     (λ e. none.0 (c.run_at.ensures.read_fault e)) (λ e. none.1 (c.run_at.ensures.write_fault e))
 
 pub returns-in-Ok-Some-clause-plain : goal.returns-in-Ok-Some-clause-plain
-returns-in-Ok-Some-clause-plain g c = λ no_run. absurd (no_run (string_bytes c.in-Ok-Some.path) (rw c.in-Ok-Some.field-0-is at c.in-Ok-Some.ensures.some))
+returns-in-Ok-Some-clause-plain g c = λ no_run no_step. absurd (no_run (string_bytes c.in-Ok-Some.path) (rw c.in-Ok-Some.field-0-is at c.in-Ok-Some.ensures.some))
+
+pub returns-in-Ok-Some-clause-step : goal.returns-in-Ok-Some-clause-step
+returns-in-Ok-Some-clause-step g c = λ task product stop s. absurd (step-no_run c.args.words.now task product stop s (string_bytes c.in-Ok-Some.path) (rw c.in-Ok-Some.field-0-is at c.in-Ok-Some.ensures.some))
 
 pub returns-in-Ok-Some-clause-no_event : goal.returns-in-Ok-Some-clause-no_event
 returns-in-Ok-Some-clause-no_event g c = λ no_run. absurd (no_run (string_bytes c.in-Ok-Some.path) (rw c.in-Ok-Some.field-0-is at c.in-Ok-Some.ensures.some))
@@ -65,16 +71,16 @@ pub returns-in-Ok-None-clause-complete : goal.returns-in-Ok-None-clause-complete
 returns-in-Ok-None-clause-complete g c = λ path inputs r t none. absurd (rw c.in-Ok-None.field-0-is at c.in-Ok-None.ensures.none path r)
 
 pub returns-in-Ok-None-clause-plain : goal.returns-in-Ok-None-clause-plain
-returns-in-Ok-None-clause-plain g c = λ no_run.
+returns-in-Ok-None-clause-plain g c = λ no_run no_step.
     let p = c.run_plain-status.ensures in
     subst (λ (status : ℕ). IsPlain c.args.words.now
     (seen (g.F.Files.contents c.args.files.now) (g.F.Files.faults c.args.files.now) (g.F.Files.faults c.run_plain-status.new.files) (g.S.Sink.faults c.args.sink.now) (g.S.Sink.faults c.run_plain-status.new.sink)
     (g.S.Sink.written c.args.sink.now) (g.S.Sink.written c.run_plain-status.new.sink)) status) (sym c.without_run.ensures.status) (record {
-      which = p.status;
-      done = p.done;
+      which = p.other_status no_step;
+      done = p.done no_step;
       memory = p.memory;
-      read_fault = p.read_fault_line;
-      write_fault = p.write_fault_part;
+      read_fault = p.read_fault_line no_step;
+      write_fault = p.write_fault_part no_step;
       bad_descriptor = p.bad_descriptor;
       bad_table = p.bad_table;
       too_large = p.too_large;
@@ -85,6 +91,14 @@ returns-in-Ok-None-clause-plain g c = λ no_run.
       accepted = λ path rows w t none. p.complete path rows w t none.0 none.1;
       described = λ path cube w t none. p.complete_cuboids path cube w t none.0 none.1;
     })
+
+pub returns-in-Ok-None-clause-step : goal.returns-in-Ok-None-clause-step
+returns-in-Ok-None-clause-step g c = λ task product stop s.
+    subst (λ (status : ℕ). IsStepRun IsTask product_of
+    (files_at (g.F.Files.contents c.args.files.now) (g.F.Files.faults c.args.files.now) (g.F.Files.write_faults c.args.files.now) (g.F.Files.seen c.args.files.now))
+    (files_at (g.F.Files.contents c.run_plain-status.new.files) (g.F.Files.faults c.run_plain-status.new.files) (g.F.Files.write_faults c.run_plain-status.new.files) (g.F.Files.seen c.run_plain-status.new.files))
+    (sink_at (g.S.Sink.written c.args.sink.now) (g.S.Sink.faults c.args.sink.now)) (sink_at (g.S.Sink.written c.run_plain-status.new.sink) (g.S.Sink.faults c.run_plain-status.new.sink)) task product stop status)
+    (sym c.without_run.ensures.status) (c.run_plain-status.ensures.step task product stop s)
 
 pub returns-in-Ok-None-clause-bad_words : goal.returns-in-Ok-None-clause-bad_words
 returns-in-Ok-None-clause-bad_words g c = λ e. (rw c.in-Ok-None.field-0-is at c.in-Ok-None.ensures.none, c.run_plain-status.ensures.bad_words (sym c.without_run.ensures.status ∙ e))
@@ -100,7 +114,7 @@ pub returns-in-Ok-None-clause-read_fault : goal.returns-in-Ok-None-clause-read_f
 returns-in-Ok-None-clause-read_fault g c = λ e. c.run_plain-status.ensures.read_fault (sym c.without_run.ensures.status ∙ e)
 
 pub returns-in-Ok-None-clause-write_fault : goal.returns-in-Ok-None-clause-write_fault
-returns-in-Ok-None-clause-write_fault g c = λ e. c.run_plain-status.ensures.write_fault (sym c.without_run.ensures.status ∙ e)
+returns-in-Ok-None-clause-write_fault g c = λ no_step e. c.run_plain-status.ensures.write_fault no_step (sym c.without_run.ensures.status ∙ e)
 
 pub returns-in-Ok-None-clause-runs : goal.returns-in-Ok-None-clause-runs
 returns-in-Ok-None-clause-runs g c = none-risen g.H.Hand.runs run_ends refl c.args.hands.items c.without_run.result.hands.items c.without_run.result.history.items c.without_run.ensures.hands c.without_run.ensures.none
@@ -117,11 +131,17 @@ pub returns-in-Err-clause-told : goal.returns-in-Err-clause-told
 returns-in-Err-clause-told g c = λ path outcome r t. ends_memory outcome c.without_run-in-Err.result.status c.without_run-in-Err.ensures.status
 
 pub returns-in-Err-clause-plain : goal.returns-in-Err-clause-plain
-returns-in-Err-clause-plain g c = λ no_run. subst (λ (status : ℕ). IsPlain c.args.words.now
+returns-in-Err-clause-plain g c = λ no_run no_step. subst (λ (status : ℕ). IsPlain c.args.words.now
     (seen (g.F.Files.contents c.args.files.now) (g.F.Files.faults c.args.files.now) (g.F.Files.faults c.args.files.now) (g.S.Sink.faults c.args.sink.now) (g.S.Sink.faults c.args.sink.now)
     (g.S.Sink.written c.args.sink.now) (g.S.Sink.written c.args.sink.now)) status) (sym c.without_run-in-Err.ensures.status) (plain-memory c.args.words.now
     (seen (g.F.Files.contents c.args.files.now) (g.F.Files.faults c.args.files.now) (g.F.Files.faults c.args.files.now) (g.S.Sink.faults c.args.sink.now) (g.S.Sink.faults c.args.sink.now)
     (g.S.Sink.written c.args.sink.now) (g.S.Sink.written c.args.sink.now)) refl)
+
+pub returns-in-Err-clause-step : goal.returns-in-Err-clause-step
+returns-in-Err-clause-step g c = λ task product stop s.
+    let files = files_at (g.F.Files.contents c.args.files.now) (g.F.Files.faults c.args.files.now) (g.F.Files.write_faults c.args.files.now) (g.F.Files.seen c.args.files.now) in
+    let sink = sink_at (g.S.Sink.written c.args.sink.now) (g.S.Sink.faults c.args.sink.now) in
+    subst (λ (status : ℕ). IsStepRun IsTask product_of files files sink sink task product stop status) (sym c.without_run-in-Err.ensures.status) (step_memory IsTask product_of files sink task product stop)
 
 pub returns-in-Err-clause-runs : goal.returns-in-Err-clause-runs
 returns-in-Err-clause-runs g c = none-risen g.H.Hand.runs run_ends refl c.args.hands.items c.without_run-in-Err.result.hands.items c.without_run-in-Err.result.history.items c.without_run-in-Err.ensures.hands c.without_run-in-Err.ensures.none
