@@ -1,7 +1,7 @@
 //! The program `cubes`: the commands of the engine over the files of the system and standard output.
 //!
 //! It is the top of the layers and holds no logic of its own. The outside as the crates below meet it comes from
-//! `os_objects`, and the steps of jobs are run by one `MemoryHand`, in this process. Files and standard output tell nothing
+//! `os_objects`, and the steps of jobs are run by one `LocalHand`, in this process. Files and standard output tell nothing
 //! of what they hold, so what is proved here is that the program is safe. `main` reads the words, calls `run` with them and
 //! ends with the status that it says.
 #![tactic(auto)]
@@ -11,8 +11,8 @@ ghost use Rattle.std.specs.Prelude.{◌≡◌, IfOk, length};
 use cubes_plain::status::MEMORY;
 use cubes_top::run;
 use fixed_cube::SmallWork;
+use local_hand::LocalHand;
 use os_objects::{OsFiles, OsStopper, StdSink};
-use outside::MemoryHand;
 use std::alloc::{AllocError, Global};
 use std::env;
 use std::io::ErrorKind;
@@ -27,12 +27,12 @@ fn words<R: std::rt::Env + AllocGlobal>(rt: &R) -> Result<Vec<String>, AllocErro
     }
 }
 
-// The one hand, whose attempts meet no fate.
-fn hands(alloc: Global) -> Result<Vec<MemoryHand<SmallWork>>, AllocError>
+// The one hand.
+fn hands(alloc: Global) -> Result<Vec<LocalHand<SmallWork>>, AllocError>
     ensures { IfOk result (λ hands. length hands.items ≡ 1) }
 {
     let mut hands = Vec::new(alloc);
-    hands.push(MemoryHand::new(alloc, Vec::new(alloc)))?;
+    hands.push(LocalHand::new())?;
     Ok(hands)
 }
 
