@@ -1,5 +1,5 @@
 -- What turns leave of a board: its world, its entries, its names and its lines.
-use Rattle.std.proofs.Common.{◌≡◌, ℕ, ◌⊎◌, List, [], ◌∷◌, ◌++◌, length, map, fold, take, drop, refl, sym, ap, ◌∙◌, subst, inl, inr, append_assoc, append-nil}
+use Rattle.std.proofs.Common.{◌≡◌, ℕ, ◌⊎◌, Bool, true, false, cond, Option, Some, None, List, [], ◌∷◌, ◌++◌, length, map, fold, take, drop, refl, sym, ap, ◌∙◌, subst, inl, inr, append_assoc, append-nil}
 use Rattle.std.specs.List.{AllByRecursion}
 use Rattle.std.proofs.lemmas.List.{map-append, take-append-drop}
 use Rattle.std.proofs.lemmas.List.Concat.{flat_map-append}
@@ -7,20 +7,29 @@ use Rattle.std.proofs.lemmas.List.Sums.{fold-append}
 use Rattle.fixed_cube.specs.Cube.{fixed}
 use Rattle.job_board.specs.Ledger.{IsAdded, IsSame, Ledger, now, turns}
 use Rattle.job_board.specs.Turns as board_turns
+use Rattle.job_machine.specs.Job.{state_after}
+use Rattle.job_machine.specs.declared.state.JobState.{JobState}
+use Rattle.outside.specs.declared.stopper.Request.{Request}
 use Rattle.plain_answer.specs.declared.ask.Ask.{Ask}
-use Rattle.run_history.specs.Commands.{Turn, event_of}
+use Rattle.run_history.specs.Commands.{Command, Turn, event_of}
+use Rattle.run_history.specs.Commands.{Command as commands}
 use Rattle.run_history.specs.Commands.Turn.{Takes, Claims, StepEnds, QueryTakes, QueryEnds}
 use Rattle.run_history.specs.Histories.{Along}
 use Rattle.run_history.specs.Steps.{step, world}
-use Rattle.run_history.specs.World.{World, start}
+use Rattle.run_history.specs.Verdicts.{act_of}
+use Rattle.run_history.specs.World.{Submitted, World, job_of, start}
+use Rattle.run_history.specs.declared.command.Control.{Control}
+use Rattle.run_history.specs.declared.command.Control.TheVariants as control
+use Rattle.run_state.specs.Answers.{steer_answer, steered_to}
 use Rattle.run_transcript.specs.Entries.{Entry, entries_along}
 use Rattle.run_transcript.specs.Runs.{line_of, lines_in, lines_taken, turn_of, turns_of}
 use Rattle.run_transcript.specs.Served.{Inputs}
 use Rattle.run_transcript.proofs.Histories.{entries_along-append}
 use Rattle.script_text.specs.declared.verb.Line.{Line}
-use Rattle.coordinator.specs.Coordinator.{IsFront, IsGrown, IsOfStep, IsSound, IsWorked, entries_in}
+use Rattle.coordinator.specs.Coordinator.{AreLanded, IsFront, IsGrown, IsOfStep, IsSound, IsWorked, entries_in, stops_in}
 use Rattle.coordinator.specs.Runs.{AreTrusted, IsOverNone}
 use Rattle.coordinator.specs.Served.{served}
+use Rattle.coordinator.specs.Stops.{request_for, requests_by, stops_along, stops_at}
 
 -- ---- turns more
 
@@ -78,6 +87,58 @@ module _ (old new : Ledger) (later : List (Turn Ask)) (g : IsGrown old later new
   lines-grown =
       ap (λ (ts : List (Turn Ask)). lines_taken (map event_of ts)) g.turns
       ∙ (ap lines_taken (map-append event_of (turns old) later) ∙ flat_map-append line_of (map event_of (turns old)) (map event_of later))
+
+-- ---- the attempts that commands find in flight
+
+stops_append : (w : World Ask) (turns later : List (Turn Ask)) → stops_along fixed w (turns ++ later) ≡ stops_along fixed w turns ++ stops_along fixed (fold (step fixed) w turns) later
+stops_append w [] later = refl
+stops_append w (turn ∷ turns) later =
+    ap (λ (rs : List Request). stops_at w turn ++ rs) (stops_append (step fixed w turn) turns later)
+    ∙ sym (append_assoc (stops_at w turn) (stops_along fixed (step fixed w turn) turns) (stops_along fixed (fold (step fixed) (step fixed w turn) turns) later))
+
+pub no-stops-grown : (old new : Ledger) (later : List (Turn Ask)) → IsGrown old later new → stops_along fixed (now old) later ≡ [] → stops_in old ≡ [] → stops_in new ≡ []
+no-stops-grown old new later g more none =
+    ap (λ (n : ℕ). stops_along fixed (start n (length fixed.tables)) (turns new)) g.workers
+    ∙ (ap (stops_along fixed (start old.workers (length fixed.tables))) g.turns
+    ∙ (stops_append (start old.workers (length fixed.tables)) (turns old) later
+    ∙ (ap (λ (rs : List Request). rs ++ stops_along fixed (now old) later) none ∙ more)))
+
+stops_steps : (w : World Ask) (later : List (Turn Ask)) → AllByRecursion IsOfStep later → stops_along fixed w later ≡ []
+stops_steps w [] h = refl
+stops_steps w (Claims job attempt ∷ later) h = stops_steps (step fixed w (Claims job attempt)) later h.1
+stops_steps w (StepEnds job attempt outcome ∷ later) h = stops_steps (step fixed w (StepEnds job attempt outcome)) later h.1
+stops_steps w (Takes line command ∷ later) h = absurd h.0
+stops_steps w (QueryTakes line ∷ later) h = absurd h.0
+stops_steps w (QueryEnds line out ∷ later) h = absurd h.0
+
+pub no-stops-worked : (old new : Ledger) → IsWorked old new → stops_in old ≡ [] → stops_in new ≡ []
+no-stops-worked old new w none = no-stops-grown old new w.later w.grown (stops_steps (now old) w.later w.steps) none
+
+attempt_none : (b : Bool) (job attempt : ℕ) → b ≡ false → request_for job (cond b (Some attempt) None) ≡ []
+attempt_none true job attempt e = absurd (let clash : true ≡ false = e in cc)
+attempt_none false job attempt e = refl
+
+stops_steered : (control : Control) (job : ℕ) (s : Submitted) (o : Option JobState) → s.job.in_flight ≡ false → requests_by job (steered_to control s.job o) ≡ []
+stops_steered control job s None still = refl
+stops_steered control.Pause job s (Some state) still = attempt_none s.job.in_flight job s.job.attempt still
+stops_steered control.Discard job s (Some state) still = attempt_none s.job.in_flight job s.job.attempt still
+stops_steered control.Resume job s (Some state) still = refl
+
+-- where no job is in flight, a command finds none
+pub no-request : (w : World Ask) (control : Control) (job : ℕ) → AreLanded w.jobs → requests_by job (steer_answer control job (job_of w job)) ≡ []
+no-request w control job landed = by_found (job_of w job) refl
+  where
+    by_found : (found : Option Submitted) → job_of w job ≡ found → requests_by job (steer_answer control job found) ≡ []
+    by_found None e = refl
+    by_found (Some s) e = stops_steered control job s (state_after (act_of control) s.job.state) (landed job s e)
+
+pub no-stops-command : (w : World Ask) (line : ℕ) (command : Command Ask) → AreLanded w.jobs → stops_along fixed w (Takes line command ∷ []) ≡ []
+no-stops-command w line (commands.Steer control job) landed = ap (λ (rs : List Request). rs ++ []) (no-request w control job landed)
+no-stops-command w line (commands.Load place rows) landed = refl
+no-stops-command w line (commands.Submit kind range) landed = refl
+no-stops-command w line (commands.Drop range) landed = refl
+no-stops-command w line (commands.Ask session query) landed = refl
+no-stops-command w line (commands.Note noted) landed = refl
 
 -- ---- what is trusted
 
@@ -140,6 +201,7 @@ pub front-sound : (inputs : Inputs) (board : Ledger) (taken : ℕ) → IsSound i
 front-sound inputs board taken s = record {
   workers = s.workers;
   named = s.named;
+  no_stops = s.no_stops;
   later = lines_in (drop taken inputs.script);
   in_order =
       ap lines_in (sym (take-append-drop taken inputs.script))
@@ -153,4 +215,5 @@ front-worked inputs old new w f = record {
   named = worked-named inputs old new w f.named;
   later = f.later;
   in_order = f.in_order ∙ ap (λ (ls : List ℕ). ls ++ f.later) (sym (worked-lines old new w));
+  no_stops = no-stops-worked old new w f.no_stops;
 }

@@ -86,5 +86,5 @@ inputs-are inputs script tables s t = ap (λ (lines : List Line). inputs_in line
 -- no turn was taken
 pub no-run : (honest : Type 0) (inputs : Inputs) (history : List Event) (before : Option (List ℕ)) → history ≡ [] → IsRunOver honest inputs history 1 before before
 no-run honest inputs history before e =
-    run-over honest inputs (empty_board inputs.workers) 0 1 history before before (record { workers = refl; named = refl; later = lines_in inputs.script; in_order = refl }) e tt tt
+    run-over honest inputs (empty_board inputs.workers) 0 1 history before before (record { workers = refl; named = refl; later = lines_in inputs.script; in_order = refl; no_stops = refl }) e tt tt
     (λ z. absurd (omega (arith, z))) (λ z. absurd (omega (arith, z))) (λ z. absurd (omega (arith, z))) (λ z trusted. part_nothing before before _ refl)

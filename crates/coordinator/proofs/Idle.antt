@@ -1,8 +1,9 @@
 -- Worlds in which nothing is in flight, and the turns between them.
-use Rattle.std.proofs.Common.{◌≡◌, ℕ, ◌≤◌, ◌<◌, Bool, true, false, Option, Some, None, List, [], ◌∷◌, ◌++◌, length, refl, ap, ◌∙◌, arith, eq-eqb, length-append}
+use Rattle.std.proofs.Common.{◌≡◌, ℕ, ◌≤◌, ◌<◌, Bool, true, false, Option, Some, None, List, [], ◌∷◌, ◌++◌, ◌+◌, length, refl, ap, ◌∙◌, arith, eq-eqb, length-append, unwrap_or}
 use Rattle.std.specs.List.{position}
 use Rattle.std.specs.Str.{bytes_eq}
 use Rattle.fixed_cube.specs.Cube.{fixed}
+use Rattle.job_machine.specs.Job.{Act, new_job, next}
 use Rattle.job_machine.specs.declared.state.Ended.{Ended}
 use Rattle.job_machine.specs.declared.state.Ended.TheVariants as ended
 use Rattle.plain_answer.specs.declared.ask.Ask.{Ask as Query}
@@ -13,17 +14,18 @@ use Rattle.run_history.specs.Cubes.{Rows}
 use Rattle.run_history.specs.Histories.{IsNextAttempt, claim_count}
 use Rattle.run_history.specs.Sets.{ReadySet}
 use Rattle.run_history.specs.Steps.{accepted, by_verdict, claimed, end_by, ended_as, step, step_ended, steered, steps_of, without_claim}
-use Rattle.run_history.specs.Verdicts.{verdict}
-use Rattle.run_history.specs.World.{Submitted, World, busy, job_of}
+use Rattle.run_history.specs.Verdicts.{act_of, verdict}
+use Rattle.run_history.specs.World.{Submitted, World, busy, in_force, job_of, number}
 use Rattle.run_history.specs.declared.command.Control.{Control}
 use Rattle.run_history.specs.declared.event.Outcome.{Outcome}
 use Rattle.run_history.specs.declared.refused.Refused.{Refused}
 use Rattle.run_transcript.specs.Served.{command_of, load_at}
 use Rattle.script_text.specs.declared.verb.Verb.{Verb}
 use Rattle.script_text.specs.declared.verb.Verb.TheVariants as verb
-use Rattle.coordinator.specs.Claims.{IsStepping}
+use Rattle.coordinator.specs.Claims.{IsAloneInFlight, IsStepping}
 use Rattle.coordinator.specs.Coordinator.{IsIdle, is_query}
 use Rattle.coordinator.specs.Served.{served}
+use Rattle.coordinator.proofs.Landed.{alone-claimed, landed-absent, landed-added, landed-ended, landed-set, landed-steered}
 
 -- a set more
 past_more : (past : List ReadySet) (ready : ReadySet) (n : ℕ) → n ≤ length past → n ≤ length (past ++ ready ∷ [])
@@ -64,15 +66,29 @@ no_ask rows verb.Jobs h = refl
 no_ask rows verb.Segments h = refl
 no_ask rows (verb.Query session text) h = absurd cc
 
-idle_steered : (w : World Query) (control : Control) (job : ℕ) (found : Option Submitted) → IsIdle w → IsIdle (steered w control job found)
-idle_steered w control job None i = i
-idle_steered w control job (Some s) i = record { workers = i.workers; answers = i.answers; steps = i.steps; waiting = i.waiting; asked = i.asked }
+idle_steered : (w : World Query) (control : Control) (job : ℕ) (found : Option Submitted) → job_of w job ≡ found → IsIdle w → IsIdle (steered w control job found)
+idle_steered w control job None e i = i
+idle_steered w control job (Some s) e i = record {
+  workers = i.workers;
+  answers = i.answers;
+  steps = i.steps;
+  waiting = i.waiting;
+  asked = i.asked;
+  landed = landed-set w.jobs job s (record s { job = next (act_of control) s.job }) e (landed-steered control s (i.landed job s e)) (λ m u other at. i.landed m u at);
+}
 
 idle_accepted : (n : ℕ) (w : World Query) (command : Command Query) → is_ask command ≡ false → IsIdle w → IsIdle (accepted n w command)
-idle_accepted n w (Load place rows) h i = record { workers = i.workers; answers = i.answers; steps = i.steps; waiting = i.waiting; asked = i.asked }
-idle_accepted n w (Submit kind range) h i = record { workers = i.workers; answers = i.answers; steps = i.steps; waiting = i.waiting; asked = i.asked }
-idle_accepted n w (Drop range) h i = record { workers = i.workers; answers = λ session. past_more w.past w.ready (w.answered session) (i.answers session); steps = i.steps; waiting = i.waiting; asked = i.asked }
-idle_accepted n w (Steer control job) h i = idle_steered w control job (job_of w job) i
+idle_accepted n w (Load place rows) h i = record { workers = i.workers; answers = i.answers; steps = i.steps; waiting = i.waiting; asked = i.asked; landed = i.landed }
+idle_accepted n w (Submit kind range) h i = record {
+  workers = i.workers;
+  answers = i.answers;
+  steps = i.steps;
+  waiting = i.waiting;
+  asked = i.asked;
+  landed = landed-added w.jobs (record { job = new_job (length w.jobs + 1) kind n; range = range; tables = None }) refl i.landed;
+}
+idle_accepted n w (Drop range) h i = record { workers = i.workers; answers = λ session. past_more w.past w.ready (w.answered session) (i.answers session); steps = i.steps; waiting = i.waiting; asked = i.asked; landed = i.landed }
+idle_accepted n w (Steer control job) h i = idle_steered w control job (job_of w job) refl i
 idle_accepted n w (Ask session query) h i = absurd cc
 idle_accepted n w (Note noted) h i = i
 
@@ -83,7 +99,7 @@ idle_by None n w command h i = idle_accepted n w command h i
 pub idle-command : (w : World Query) (line : ℕ) (command : Command Query) → is_ask command ≡ false → IsIdle w → IsIdle (step fixed w (Takes line command))
 idle-command w line command h i =
     idle_by (verdict fixed w command) (steps_of fixed command) (record w { line = line }) command h
-    (record { workers = i.workers; answers = i.answers; steps = i.steps; waiting = i.waiting; asked = i.asked })
+    (record { workers = i.workers; answers = i.answers; steps = i.steps; waiting = i.waiting; asked = i.asked; landed = i.landed })
 
 line_steered : (w : World Query) (control : Control) (job : ℕ) (found : Option Submitted) → (steered w control job found).line ≡ w.line
 line_steered w control job None = refl
@@ -104,18 +120,19 @@ line-command w line command = line_by (verdict fixed w command) (steps_of fixed 
 
 -- ---- steps
 
-stepping_claimed : (w : World Query) (job attempt : ℕ) (found : Option Submitted) → IsNextAttempt found attempt → IsIdle w → IsStepping (claimed w job attempt found) job attempt
-stepping_claimed w job attempt None h i = absurd h
-stepping_claimed w job attempt (Some s) h i = record {
+stepping_claimed : (w : World Query) (job attempt : ℕ) (found : Option Submitted) → job_of w job ≡ found → IsNextAttempt found attempt → IsIdle w → IsStepping (claimed w job attempt found) job attempt
+stepping_claimed w job attempt None e h i = absurd h
+stepping_claimed w job attempt (Some s) e h i = record {
   workers = i.workers;
   answers = i.answers;
   steps = ap (λ (claims : List (ℕ × ℕ)). claims ++ (job, attempt) ∷ []) i.steps;
   waiting = i.waiting;
   asked = i.asked;
+  alone = alone-claimed w.jobs job attempt s (record s { job = next Act.Claim s.job; tables = Some (unwrap_or s.tables (in_force w)) }) e h refl i.landed;
 }
 
 pub stepping-claim : (w : World Query) (job attempt : ℕ) → IsNextAttempt (job_of w job) attempt → IsIdle w → IsStepping (step fixed w (Claims job attempt)) job attempt
-stepping-claim w job attempt h i = stepping_claimed w job attempt (job_of w job) h i
+stepping-claim w job attempt h i = stepping_claimed w job attempt (job_of w job) refl h i
 
 -- the claim is there
 pub stepping-count : (w : World Query) (job attempt : ℕ) → IsStepping w job attempt → 0 < claim_count job attempt w.steps
@@ -123,21 +140,41 @@ stepping-count w job attempt s =
     let one : claim_count job attempt ((job, attempt) ∷ []) ≡ 1 = rw (eq-eqb job job refl, eq-eqb attempt attempt refl) refl in
     omega (arith, one, ap (claim_count job attempt) s.steps)
 
-idle_ended_as : (e : Ended) (w : World Query) (job : ℕ) (s : Submitted) → IsIdle w → IsIdle (ended_as e w job s)
-idle_ended_as ended.Stale w job s i = i
-idle_ended_as ended.Advanced w job s i = record { workers = i.workers; answers = i.answers; steps = i.steps; waiting = i.waiting; asked = i.asked }
-idle_ended_as ended.Finished w job s i = record { workers = i.workers; answers = λ session. past_more w.past w.ready (w.answered session) (i.answers session); steps = i.steps; waiting = i.waiting; asked = i.asked }
-idle_ended_as ended.Failed w job s i = record { workers = i.workers; answers = i.answers; steps = i.steps; waiting = i.waiting; asked = i.asked }
+-- what an idle world has beside its jobs
+record IsQuiet (w : World Query) : Type 0 where
+  pub workers : 0 < w.workers
+  pub answers : (session : ℕ) → w.answered session ≤ number w
+  pub steps : w.steps ≡ []
+  pub waiting : w.waiting ≡ []
+  pub asked : w.asked ≡ []
 
-idle_ended : (w : World Query) (job attempt : ℕ) (outcome : Outcome) (found : Option Submitted) → IsIdle w → IsIdle (step_ended w job attempt outcome found)
-idle_ended w job attempt outcome None i = i
-idle_ended w job attempt outcome (Some s) i = idle_ended_as (end_by outcome s.job attempt) w job s i
+module _ (w : World Query) (job attempt : ℕ) (i : IsQuiet w) (alone : IsAloneInFlight job attempt w.jobs) where
+  idle_ended_as : (e : Ended) (outcome : Outcome) (s : Submitted) → job_of w job ≡ Some s → end_by outcome s.job attempt ≡ e → IsIdle (ended_as e w job s)
+  idle_ended_as ended.Stale outcome s there e =
+      record { workers = i.workers; answers = i.answers; steps = i.steps; waiting = i.waiting; asked = i.asked; landed = landed-ended w.jobs job attempt alone ended.Stale outcome s there e }
+  idle_ended_as ended.Advanced outcome s there e =
+      record { workers = i.workers; answers = i.answers; steps = i.steps; waiting = i.waiting; asked = i.asked; landed = landed-ended w.jobs job attempt alone ended.Advanced outcome s there e }
+  idle_ended_as ended.Finished outcome s there e = record {
+    workers = i.workers;
+    answers = λ session. past_more w.past w.ready (w.answered session) (i.answers session);
+    steps = i.steps;
+    waiting = i.waiting;
+    asked = i.asked;
+    landed = landed-ended w.jobs job attempt alone ended.Finished outcome s there e;
+  }
+  idle_ended_as ended.Failed outcome s there e =
+      record { workers = i.workers; answers = i.answers; steps = i.steps; waiting = i.waiting; asked = i.asked; landed = landed-ended w.jobs job attempt alone ended.Failed outcome s there e }
+
+  idle_ended : (outcome : Outcome) (found : Option Submitted) → job_of w job ≡ found → IsIdle (step_ended w job attempt outcome found)
+  idle_ended outcome None e =
+      record { workers = i.workers; answers = i.answers; steps = i.steps; waiting = i.waiting; asked = i.asked; landed = landed-absent w.jobs job attempt alone e }
+  idle_ended outcome (Some s) e = idle_ended_as (end_by outcome s.job attempt) outcome s e refl
 
 pub idle-end : (w : World Query) (job attempt : ℕ) (outcome : Outcome) → IsStepping w job attempt → IsIdle (step fixed w (StepEnds job attempt outcome))
 idle-end w job attempt outcome s =
     let none : without_claim job attempt ((job, attempt) ∷ []) ≡ [] = rw (eq-eqb job job refl, eq-eqb attempt attempt refl) refl in
-    idle_ended (record w { steps = without_claim job attempt w.steps }) job attempt outcome (job_of w job)
-    (record { workers = s.workers; answers = s.answers; steps = ap (without_claim job attempt) s.steps ∙ none; waiting = s.waiting; asked = s.asked })
+    idle_ended (record w { steps = without_claim job attempt w.steps }) job attempt
+    (record { workers = s.workers; answers = s.answers; steps = ap (without_claim job attempt) s.steps ∙ none; waiting = s.waiting; asked = s.asked }) s.alone outcome (job_of w job) refl
 
 -- steps leave the line
 line_claimed : (w : World Query) (job attempt : ℕ) (found : Option Submitted) → (claimed w job attempt found).line ≡ w.line

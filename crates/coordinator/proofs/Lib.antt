@@ -15,3 +15,8 @@ pub mod Results
 pub mod Still
 pub mod Blocks
 pub mod Endings
+pub mod Landed
+pub mod NextTasks
+pub mod TieFacts
+pub mod TiedFacts
+pub mod Asked

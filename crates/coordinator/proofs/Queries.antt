@@ -26,11 +26,13 @@ use Rattle.script_text.specs.declared.block.Block.{Block}
 use Rattle.script_text.specs.declared.block.Block.TheVariants as block
 use Rattle.script_text.specs.declared.verb.Line.{Line}
 use Rattle.coordinator.specs.Answers.{CanEnd, IsAccepted, IsAnswerOf, IsAnswerOver, IsTakenQuery}
-use Rattle.coordinator.specs.Coordinator.{IsGrown, IsIdle, IsSound, RisesFrom, asked_turns, entries_in, inputs_in}
+use Rattle.coordinator.specs.Coordinator.{AreLanded, IsGrown, IsIdle, IsSound, RisesFrom, asked_turns, entries_in, inputs_in}
 use Rattle.coordinator.specs.Runs.{IsOverNone}
 use Rattle.coordinator.specs.Served.{rows_at, served}
 use Rattle.coordinator.specs.Taken.{IsQuery}
+use Rattle.coordinator.specs.Tasks.{HasTasks}
 use Rattle.coordinator.proofs.Boards.{entries-grown, grown-added, grown-same, grown-then, now-grown, trusted-grown}
+use Rattle.coordinator.proofs.NextTasks.{tasks-command, tasks-query_ended, tasks-query_taken}
 use Rattle.coordinator.proofs.Tells.{TellsLine}
 use Rattle.coordinator.proofs.Scripts.{command_found}
 
@@ -128,7 +130,14 @@ module _ (w : World Query) (line session : ℕ) (i : IsIdle w) where
     asked =
         ap (filter (λ (q : Asked Query). not (q.waiting.line == line))) flies_alone
         ∙ ap (λ (t : Bool). cond (not t) (asked_now w line session ∷ []) []) (eq-eqb line line refl);
+    landed = subst (λ (x : World Query). AreLanded x.jobs) (sym taken_is) i.landed;
   })
+
+  -- a query changes no job
+  pub tasks_ended : (out : QueryOut) (products : List (List (List ℕ))) → HasTasks w products → HasTasks (step fixed (taken_world w line session) (QueryEnds line out)) products
+  tasks_ended out products h =
+      tasks-query_ended (taken_world w line session) products
+      (tasks-query_taken (accepted_world w line session) products (tasks-command w products h line (Ask session by_first) tt) line) line out
 
   pub line_ended : (out : QueryOut) → (step fixed (taken_world w line session) (QueryEnds line out)).line ≡ line
   line_ended out = ap (λ (x : World Query). x.line) (ended_is out) ∙ ap (λ (x : World Query). x.line) taken_is
@@ -252,6 +261,10 @@ module _ (honest : Type 0) (script : List Line) (tables : List LoadedTable) (old
     last = ap (λ (w : World Query). w.line) after ∙ line_ended (now old) line.number q.session s.idle q.out;
     idle = subst IsIdle (sym after) (idle_ended (now old) line.number q.session s.idle q.out (out_over honest (now old) q.out said q.answer));
     told = answer_block served (taken_world (now old) line.number q.session) (asked_now (now old) line.number q.session) q.out;
+    no_stops = refl;
+    tasks = λ h.
+        subst (HasTasks (now new)) (sym q.products)
+        (subst (λ (w : World Query). HasTasks w old.products) (sym after) (tasks_ended (now old) line.number q.session s.idle q.out old.products h));
     entries =
         entries-grown old new (asked_turns line.number q.session ++ QueryEnds line.number q.out ∷ []) q.grown script
         ∙ entries_query (now old) line.number q.session s.idle script (entries_in script old) q.out s.all_told;

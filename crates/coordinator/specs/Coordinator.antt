@@ -9,11 +9,12 @@ use Rattle.fixed_cube.specs.Cube.{fixed}
 use Rattle.job_board.specs.Ledger.{Ledger, now, turns}
 use Rattle.outside.specs.Rises.{Risen}
 use Rattle.outside.specs.Written.{AppendsPart}
+use Rattle.outside.specs.declared.stopper.Request.{Request}
 use Rattle.plain_answer.specs.declared.ask.Ask.{Ask}
 use Rattle.run_history.specs.Commands.{Command as command, Turn, event_of}
 use Rattle.run_history.specs.Commands.Turn.{Takes, Claims, StepEnds, QueryTakes, QueryEnds}
 use Rattle.run_history.specs.Histories.{MayNote, is_settled}
-use Rattle.run_history.specs.World.{World, number, start}
+use Rattle.run_history.specs.World.{Submitted, World, job_at, number, start}
 use Rattle.run_history.specs.declared.command.Noted.{Noted}
 use Rattle.run_history.specs.declared.command.Noted.TheVariants as noted
 use Rattle.run_inputs.specs.Inputs.{HasFittingRows}
@@ -27,6 +28,8 @@ use Rattle.script_text.specs.declared.verb.Verb.{Verb}
 use Rattle.script_text.specs.declared.verb.Verb.TheVariants as verb
 use Rattle.coordinator.specs.Runs.{AreTrusted, fault_ends, run_ends}
 use Rattle.coordinator.specs.Served.{inputs_of, served}
+use Rattle.coordinator.specs.Stops.{stops_along}
+use Rattle.coordinator.specs.Tasks.{HasTasksIn}
 use Rattle.coordinator.specs.declared.loads.SharedLoad.{SharedLoad}
 
 -- ---- what the coordinator was given
@@ -99,6 +102,10 @@ pub record IsWorked (old new : Ledger) : Type 0 where
 
 -- ---- what the coordinator keeps
 
+-- no job is in flight
+abbrev pub AreLanded : List Submitted → Type 0
+AreLanded jobs = (n : ℕ) (s : Submitted) → job_at jobs n ≡ Some s → s.job.in_flight ≡ false
+
 -- nothing is in flight and no query waits, there is a worker, and no answer was over a set that is still to come
 pub record IsIdle (w : World Ask) : Type 0 where
   pub workers : 0 < w.workers
@@ -106,19 +113,26 @@ pub record IsIdle (w : World Ask) : Type 0 where
   pub steps : w.steps ≡ []
   pub waiting : w.waiting ≡ []
   pub asked : w.asked ≡ []
+  pub landed : AreLanded w.jobs
 
 -- the entries of the turns of a board
 abbrev pub entries_in : List Line → Ledger → List Entry
 entries_in script board = entries_along served script (start board.workers (length fixed.tables)) [] (turns board)
 
--- the board's turns are those of its events over the inputs, and their commands are the first ones of the script
+-- the attempts that its commands found in flight
+abbrev pub stops_in : Ledger → List Request
+stops_in board = stops_along fixed (start board.workers (length fixed.tables)) (turns board)
+
+-- the board's turns are those of its events over the inputs, their commands are the first ones of the script, and none of them found an
+-- attempt in flight
 pub record IsFront (inputs : Inputs) (board : Ledger) : Type 0 where
   pub workers : board.workers ≡ inputs.workers
   pub named : turns_of served inputs (map event_of (turns board)) ≡ turns board
   pub later : List ℕ
   pub in_order : lines_in inputs.script ≡ lines_taken (map event_of (turns board)) ++ later
+  pub no_stops : stops_in board ≡ []
 
--- so many commands of the script were taken, and all their blocks are told
+-- so many commands of the script were taken, and all their blocks are told; each job has its next task
 pub record IsSound (inputs : Inputs) (board : Ledger) (taken : ℕ) : Type 0 where
   pub within : taken ≤ length inputs.script
   pub workers : board.workers ≡ inputs.workers
@@ -127,6 +141,8 @@ pub record IsSound (inputs : Inputs) (board : Ledger) (taken : ℕ) : Type 0 whe
   pub later : RisesFrom (now board).line (drop taken inputs.script)
   pub idle : IsIdle (now board)
   pub all_told : AreTold (entries_in inputs.script board)
+  pub no_stops : stops_in board ≡ []
+  pub tasks : HasTasksIn board
 
 -- where a run is trusted, all that is told was written after these bytes; or a part of it from the front
 abbrev pub HasWritten : Type 0 → List Line → Ledger → Option (List ℕ) → Option (List ℕ) → Type 0

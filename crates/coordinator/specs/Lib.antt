@@ -4,3 +4,8 @@ pub mod Answers
 pub mod Coordinator
 pub mod Taken
 pub mod Claims
+pub mod Ties
+pub mod Tied
+pub mod Stops
+pub mod Tasks
+pub mod Examples

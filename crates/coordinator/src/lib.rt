@@ -6,10 +6,12 @@
 //!
 //! Its boundary is `run_script`: what it is given was read and checked before (`run_inputs`), and nothing here reads a file or knows the
 //! words of a command line. The modules: `loads`: the rows of loads; `listing`: what is listed of jobs; `commands`, `query`, `steps`: turns
-//! on the board; `fault`: why a run ends early; `turns`: one turn, with what is written of it; `run`: one turn after another.
+//! on the board; `fault`: why a run ends early; `turns`: one turn, with what is written of it; `run`: one turn after another; `examples`: the
+//! definitions, computed.
 #![tactic(auto)]
 
 mod commands;
+mod examples;
 mod fault;
 mod listing;
 mod loads;
@@ -18,5 +20,6 @@ mod run;
 mod steps;
 mod turns;
 
+pub use examples::{worked_calls, worked_ends, worked_stops};
 pub use fault::RunFault;
 pub use run::{ScriptRun, run_script};

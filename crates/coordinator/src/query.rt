@@ -23,6 +23,7 @@ fn accept_query<H: Hand<SmallWork> + Drop>(
 ) -> Result<(), AllocError>
     requires above { (now board.old).line < line }
     ensures ok { OnOk result (IsAdded board.old (Takes line (command.Ask session by_first)) board.new) }
+    ensures products { board.new.products ≡ board.old.products }
     ensures err { OnErr result (IsSame board.old board.new) }
 {
     board.reserve_turn()?;
@@ -37,6 +38,7 @@ fn take_accepted<H: Hand<SmallWork> + Drop>(
     requires { IsAccepted (now board.old) line }
     ensures ok { IfOk result (λ work. IsAdded board.old (QueryTakes line) board.new) }
     ensures work { IfOk result (λ work. IsTakenQuery H.honest (now board.old) line work) }
+    ensures products { board.new.products ≡ board.old.products }
     ensures err { OnErr result (IsSame board.old board.new) }
 {
     board.reserve_turn()?;
@@ -54,6 +56,7 @@ fn end_taken<H: Hand<SmallWork> + Drop>(
 ) -> Result<Block, AllocError>
     requires { CanEnd (now board.old) work.now.line work.now.version }
     ensures ok { IfOk result (λ block. (out : QueryOut) × IsAdded board.old (QueryEnds work.now.line out) board.new × IsAnswerOf work.now out block) }
+    ensures products { board.new.products ≡ board.old.products }
     ensures err { OnErr result (IsSame board.old board.new) }
 {
     board.reserve_turn()?;
@@ -79,6 +82,7 @@ pub fn answer_query<H: Hand<SmallWork> + Drop>(
     requires above { (now board.old).line < line }
     requires idle { IsIdle (now board.old) }
     ensures ok { IfOk result (λ block. (out : QueryOut) × IsGrown board.old (asked_turns line session ++ QueryEnds line out ∷ []) board.new × IsAnswerOver H.honest (now board.old) out block) }
+    ensures products { board.new.products ≡ board.old.products }
     ensures err { OnErr result ((count : ℕ) × IsGrown board.old (take count (asked_turns line session)) board.new) }
 {
     accept_query(board, line, session)?;

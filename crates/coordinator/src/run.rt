@@ -1,19 +1,25 @@
 // A run, from its script to its history.
 
 ghost use denote.Param.Send.{IsSync};
-ghost use Rattle.std.specs.Prelude.{◌≡◌, ◌≤◌, ◌∷◌, [], ℕ, IfErr, IfOk, IsErrOf, List, OnErr, OnOk, Option, length, map, true};
+ghost use Rattle.std.specs.Prelude.{◌≡◌, ◌≢◌, ◌≤◌, ◌∷◌, ◌++◌, [], ℕ, All, IfErr, IfOk, IsErrOf, List, OnErr, OnOk, Option, Some, length, map, option_map, true};
 ghost use Rattle.std.specs.Io.KnownBytes.{append_known};
+ghost use Rattle.fixed_cube.specs.Cube.{fixed};
 ghost use Rattle.job_board.specs.Ledger.{now, turns};
 ghost use Rattle.outside.specs.Counts.{Rose};
+ghost use Rattle.outside.specs.Hands.{Call, Fail};
 ghost use Rattle.outside.specs.Rises.{Risen};
 ghost use Rattle.outside.specs.Written.{AppendsPart};
 ghost use Rattle.run_history.specs.Commands.{event_of};
 ghost use Rattle.run_transcript.specs.Entries.{tally_of};
+ghost use Rattle.run_transcript.specs.Runs.{turns_of};
 ghost use Rattle.run_transcript.specs.Transcripts.{transcript};
 ghost use Rattle.script_text.specs.Blocks.{end_text};
 ghost use Rattle.coordinator.specs.Coordinator.{AreGiven, HasWritten, IsCounted, IsFront, IsSound, IsStill, inputs_in, is_done, load_of};
 ghost use Rattle.coordinator.specs.Runs.{AreTrusted, IsRunOver, fault_ends, run_ends, status_of};
 ghost use Rattle.coordinator.specs.Served.{inputs_of, served};
+ghost use Rattle.coordinator.specs.Stops.{AsksAmong, stops_of};
+ghost use Rattle.coordinator.specs.Tied.{IsTied};
+ghost use Rattle.coordinator.specs.Ties.{AreCallsOf, IsEndBy, IsUndamaged, StandsAmong};
 
 use crate::fault::RunFault;
 use crate::listing::tally_of;
@@ -109,6 +115,9 @@ fn drive<R: Threads + Wait + Sync, H: Hand<SmallWork> + Drop, P: Stopper, S: Sin
         → AreTrusted H.honest coordinator.new.board.workers (turns coordinator.new.board)
         → AppendsPart before (S.written sink.new) (transcript served (inputs_in coordinator.old.script (map load_of coordinator.old.loads.items)) (map event_of (turns coordinator.new.board)))) }
     ensures counted { (base : List H) → IsCounted H.runs H.faults base (coordinator.old.hand ∷ []) coordinator.old.board → IsCounted H.runs H.faults base (coordinator.new.hand ∷ []) coordinator.new.board }
+    ensures tied { (base : H) → IsTied H.honest H.fails H.calls base coordinator.old.hand coordinator.old.board → IsTied H.honest H.fails H.calls base coordinator.new.hand coordinator.new.board }
+    ensures stopper { stopper.new ≡ stopper.old }
+    ensures quiet { coordinator.old.script ≢ [] → turns coordinator.old.board ≡ [] → turns coordinator.new.board ≡ [] → S.written sink.new ≡ S.written sink.old }
     ensures failed { IsErrOf result RunFault.Write → Rose (S.faults sink.old) (S.faults sink.new) }
     ensures faults { S.faults sink.old ≤ S.faults sink.new }
 {
@@ -139,6 +148,24 @@ pub fn run_script<R: Threads + Wait + Sync, H: Hand<SmallWork> + Drop, P: Stoppe
     // The hand's counts cover the ends of steps.
     ensures runs { Risen H.runs (hand ∷ []) (result.hand ∷ []) (run_ends result.history.items) }
     ensures faults { Risen H.faults (hand ∷ []) (result.hand ∷ []) (fault_ends result.history.items) }
+
+    // The faults that attempts meet, where the hand tells them: each end of a step is by the first one of its attempt, or by none.
+    ensures fails { (told : List Fail) → H.fails hand ≡ Some told → All (IsEndBy told) result.history.items }
+    ensures fails_stand { (told : List Fail) → H.fails hand ≡ Some told → All (StandsAmong told) result.history.items }
+    ensures fails_same { H.fails result.hand ≡ H.fails hand }
+
+    // The hand's calls, where it tells them: the new ones are those of the ends of steps.
+    ensures calls { (calls : List Call) × (H.calls result.hand ≡ option_map (λ before. before ++ calls) (H.calls hand)) × AreCallsOf fixed H.honest 1 (turns_of served (inputs_of 1 inputs) result.history.items) calls }
+
+    // Where the hand is honest no product is Damaged.
+    ensures undamaged { H.honest → All IsUndamaged result.history.items }
+
+    // The stopper's count covers the attempts that commands found in flight, and its new requests are among these.
+    ensures asks { Risen P.asks (stopper.old ∷ []) (stopper.new ∷ []) (length (stops_of served (inputs_of 1 inputs) result.history.items)) }
+    ensures requests { AsksAmong (stops_of served (inputs_of 1 inputs) result.history.items) (P.requests stopper.old) (P.requests stopper.new) }
+
+    // Without an event nothing was written.
+    ensures quiet { inputs.script ≢ [] → result.history.items ≡ [] → S.written sink.new ≡ S.written sink.old }
 
     ensures failed { IsErrOf result.ended RunFault.Write → Rose (S.faults sink.old) (S.faults sink.new) }
     ensures sink_faults { S.faults sink.old ≤ S.faults sink.new }

@@ -3,7 +3,7 @@
 ghost use denote.Param.Send.{IsSync};
 ghost use Rattle.std.specs.Prelude.{◌≡◌, ◌≤◌, ◌<◌, ◌∷◌, [], ℕ, All, IfOk, IsErrOf, List, Ok, OnErr, OnOk, Option, Some, false, length, map, slice_get, true};
 ghost use Rattle.std.specs.Io.KnownBytes.{append_known};
-ghost use Rattle.job_board.specs.Ledger.{now};
+ghost use Rattle.job_board.specs.Ledger.{now, turns};
 ghost use Rattle.outside.specs.Counts.{Rose};
 ghost use Rattle.outside.specs.Written.{AppendsPart};
 ghost use Rattle.run_history.specs.Histories.{MayNote};
@@ -12,6 +12,7 @@ ghost use Rattle.script_text.specs.Blocks.{block_text};
 ghost use Rattle.script_text.specs.declared.verb.Line.{Line};
 ghost use Rattle.coordinator.specs.Coordinator.{AreGiven, HasWritten, HasWrittenPart, IsCounted, IsFront, IsIdle, IsServedLine, IsSound, IsStill, awaited, inputs_in, load_of};
 ghost use Rattle.coordinator.specs.Taken.{IsTaken, IsTakenPart};
+ghost use Rattle.coordinator.specs.Tied.{IsTied};
 
 use crate::commands::{awaited, session_of, take_command};
 use crate::fault::RunFault;
@@ -51,6 +52,7 @@ fn take_line<H: Hand<SmallWork> + Drop, P: Stopper>(
     requires fit { All HasFittingRows (map load_of loads.now) }
     ensures ok { IfOk result (λ block. IsTaken H.honest (map load_of loads.now) board.old line.now block board.new) }
     ensures err { OnErr result (IsTakenPart board.old line.now board.new) }
+    ensures stopper { stopper.new ≡ stopper.old }
 {
     match session_of(&line.verb) {
         Some(session) => answer_query(alloc, board, line.number, session),
@@ -110,6 +112,9 @@ fn take_next<H: Hand<SmallWork> + Drop, P: Stopper, S: Sink>(
     ensures written { OnOk result ((before : Option (List ℕ)) → HasWritten H.honest coordinator.old.script coordinator.old.board before (S.written sink.old) → HasWritten H.honest coordinator.old.script coordinator.new.board before (S.written sink.new)) }
     ensures part { OnErr result ((before : Option (List ℕ)) → HasWritten H.honest coordinator.old.script coordinator.old.board before (S.written sink.old) → HasWrittenPart H.honest coordinator.old.script coordinator.new.board before (S.written sink.new)) }
     ensures counted { (base : List H) → IsCounted H.runs H.faults base (coordinator.old.hand ∷ []) coordinator.old.board → IsCounted H.runs H.faults base (coordinator.new.hand ∷ []) coordinator.new.board }
+    ensures tied { (base : H) → IsTied H.honest H.fails H.calls base coordinator.old.hand coordinator.old.board → IsTied H.honest H.fails H.calls base coordinator.new.hand coordinator.new.board }
+    ensures stopper { stopper.new ≡ stopper.old }
+    ensures quiet { turns coordinator.new.board ≡ [] → (turns coordinator.old.board ≡ []) × (S.written sink.new ≡ S.written sink.old) }
     ensures failed { IsErrOf result RunFault.Write → Rose (S.faults sink.old) (S.faults sink.new) }
     ensures faults { S.faults sink.old ≤ S.faults sink.new }
 {
@@ -159,6 +164,9 @@ pub fn advance<R: Threads + Wait + Sync, H: Hand<SmallWork> + Drop, P: Stopper, 
     ensures written { OnOk result ((before : Option (List ℕ)) → HasWritten H.honest coordinator.old.script coordinator.old.board before (S.written sink.old) → HasWritten H.honest coordinator.old.script coordinator.new.board before (S.written sink.new)) }
     ensures part { OnErr result ((before : Option (List ℕ)) → HasWritten H.honest coordinator.old.script coordinator.old.board before (S.written sink.old) → HasWrittenPart H.honest coordinator.old.script coordinator.new.board before (S.written sink.new)) }
     ensures counted { (base : List H) → IsCounted H.runs H.faults base (coordinator.old.hand ∷ []) coordinator.old.board → IsCounted H.runs H.faults base (coordinator.new.hand ∷ []) coordinator.new.board }
+    ensures tied { (base : H) → IsTied H.honest H.fails H.calls base coordinator.old.hand coordinator.old.board → IsTied H.honest H.fails H.calls base coordinator.new.hand coordinator.new.board }
+    ensures stopper { stopper.new ≡ stopper.old }
+    ensures quiet { turns coordinator.new.board ≡ [] → (turns coordinator.old.board ≡ []) × (S.written sink.new ≡ S.written sink.old) }
     ensures failed { IsErrOf result RunFault.Write → Rose (S.faults sink.old) (S.faults sink.new) }
     ensures faults { S.faults sink.old ≤ S.faults sink.new }
 {

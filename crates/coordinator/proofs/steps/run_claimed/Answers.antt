@@ -5,6 +5,11 @@ use Rattle.run_history.specs.Commands.Turn.{StepEnds}
 use Rattle.run_history.specs.World.{job_of}
 use Rattle.coordinator.proofs.Boards.{added-same, grown-added}
 use Rattle.coordinator.proofs.Ends.{counted-grown, fault_rises, faults_rose, run_count, runs_rose}
+use Rattle.coordinator.proofs.TiedFacts.{called-by, follows-fails, recorded-answer}
+use Rattle.coordinator.proofs.Worked.{tasks-ended, tasks-same}
+use Rattle.std.proofs.Common.{◌≡◌, ℕ, List, sym, subst, inl, inr}
+use Rattle.fixed_cube.specs.Tasks.{IsTask}
+use Rattle.outside.specs.Hands.{call_of, with_call}
 use Rattle.coordinator.proofs.steps.run_claimed.Goals as goal
 
 pub returns-clause-counted : goal.returns-clause-counted
@@ -18,3 +23,36 @@ returns-clause-counted g c = λ base h.
     (grown-added old turn c.end_step.new.self added) (run_count c.args.work.job c.args.work.attempt c.end_step.result) (omega (arith, faults))
     (runs_rose g.H.Hand.runs c.args.hand.now c.run-answer.new.self c.run-answer.ensures.ran)
     (faults_rose g.H.Hand.faults c.args.hand.now c.run-answer.new.self c.run-answer.result c.run-answer.ensures.faults c.run-answer.ensures.failed) h
+
+-- the end that is recorded, and what the hand did for it
+pub returns-clause-ended : goal.returns-clause-ended
+returns-clause-ended g c =
+    let old = c.args.board.now in
+    let mid = c.reserve_turn.new.self in
+    let work = c.args.work in
+    let answer = c.run-answer.result in
+    let outcome = c.end_step.result in
+    let bytes = c.as_slice.ensures.value in
+    let recorded = recorded-answer (now mid) (job_of (now mid) work.job) (kept_of mid.products work.job) work.attempt answer outcome c.end_step.ensures.outcome in (
+      outcome,
+      added-same old mid (StepEnds work.job work.attempt outcome) c.end_step.new.self c.in_ok-reserve_turn.ensures.same c.end_step.ensures.added,
+      record {
+        fails_same = c.run-answer.ensures.fails;
+        follows = follows-fails (g.H.Hand.fails c.args.hand.now) work.job work.attempt answer outcome (c.run-answer.ensures.answers_fails (subst IsTask (sym bytes) c.requires.work.is_task)) recorded;
+        sound = λ honest. c.end_step.ensures.honest honest;
+        called =
+            called-by answer outcome (g.H.Hand.calls c.run-answer.new.self ≡ with_call (g.H.Hand.calls c.args.hand.now) (call_of work.job work.attempt work.task.items))
+            (g.H.Hand.calls c.run-answer.new.self ≡ g.H.Hand.calls c.args.hand.now) recorded
+            (λ h. subst (λ (task : List ℕ). g.H.Hand.calls c.run-answer.new.self ≡ with_call (g.H.Hand.calls c.args.hand.now) (call_of work.job work.attempt task)) bytes (c.run-answer.ensures.called h))
+            (λ h. elim (c.run-answer.ensures.called_memory h) [
+              | inl k ↦ inl (subst (λ (task : List ℕ). g.H.Hand.calls c.run-answer.new.self ≡ with_call (g.H.Hand.calls c.args.hand.now) (call_of work.job work.attempt task)) bytes k)
+              | inr k ↦ inr k
+            ]);
+      },
+    )
+
+pub returns-clause-tasks : goal.returns-clause-tasks
+returns-clause-tasks g c =
+    let mid = c.reserve_turn.new.self in
+    tasks-ended mid c.end_step.new.self c.args.work.job c.args.work.attempt c.run-answer.result c.end_step.result c.end_step.ensures.added c.end_step.ensures.products
+    c.product_len.ensures c.end_step.ensures.outcome (tasks-same c.args.board.now mid c.in_ok-reserve_turn.ensures.same c.requires.tasks)

@@ -3,6 +3,10 @@ use Rattle.run_history.specs.Commands.Turn.{Claims}
 use Rattle.coordinator.proofs.Boards.{grown-added}
 use Rattle.coordinator.proofs.Ends.{counted-silent}
 use Rattle.coordinator.proofs.Worked.{idle-ended, worked-claim, worked-step, worked-then}
+use Rattle.std.proofs.Common.{sym, subst}
+use Rattle.coordinator.specs.Tied.{IsTied}
+use Rattle.coordinator.proofs.TiedFacts.{tied-claim, tied-same, tied-step}
+use Rattle.coordinator.proofs.Worked.{tasks-claimed, tasks-same}
 use Rattle.coordinator.proofs.steps.run_step.Goals as goal
 
 -- a step was claimed, and its end is not recorded
@@ -38,3 +42,34 @@ returns-in_err-run_claimed-in-Some-clause-counted g c = λ base h.
     c.run_claimed.ensures.counted base
     (counted-silent g.H.Hand.runs g.H.Hand.faults base (c.args.hand.now ∷ []) c.args.board.now c.claim_step.new.board (Claims c.in-Some.work.job c.in-Some.work.attempt ∷ [])
     (grown-added c.args.board.now (Claims c.in-Some.work.job c.in-Some.work.attempt) c.claim_step.new.board claimed.added) refl refl h)
+
+pub run_claimed-requires-clause-tasks : goal.run_claimed-requires-clause-tasks
+run_claimed-requires-clause-tasks g c = λ κs h.
+    let claimed = rw c.in-Some.is at c.in_ok-work.ensures.some in
+    tasks-claimed c.args.board.now c.claim_step.new.board c.in-Some.work.job c.in-Some.work.attempt claimed.added claimed.products c.requires.tasks
+
+pub returns-in-None-clause-tasks : goal.returns-in-None-clause-tasks
+returns-in-None-clause-tasks g c = tasks-same c.args.board.now c.claim_step.new.board (c.in_ok-work.ensures.none c.in-None.is) c.requires.tasks
+
+pub returns-in_err-work-clause-tied : goal.returns-in_err-work-clause-tied
+returns-in_err-work-clause-tied g c = λ base t.
+    tied-same g.H.Honest.honest g.H.Hand.fails g.H.Hand.calls base c.args.hand.now c.args.board.now c.claim_step.new.board c.in_err-work.ensures.err t
+
+pub returns-in-None-clause-tied : goal.returns-in-None-clause-tied
+returns-in-None-clause-tied g c = λ base t.
+    tied-same g.H.Honest.honest g.H.Hand.fails g.H.Hand.calls base c.args.hand.now c.args.board.now c.claim_step.new.board (c.in_ok-work.ensures.none c.in-None.is) t
+
+pub returns-in_err-run_claimed-in-Some-clause-tied : goal.returns-in_err-run_claimed-in-Some-clause-tied
+returns-in_err-run_claimed-in-Some-clause-tied g c = λ base t.
+    let work = c.in-Some.work in
+    let claimed = rw c.in-Some.is at c.in_ok-work.ensures.some in
+    let mid = tied-claim g.H.Honest.honest g.H.Hand.fails g.H.Hand.calls base c.args.hand.now c.args.board.now c.claim_step.new.board work.job work.attempt claimed.added t in
+    let new = tied-same g.H.Honest.honest g.H.Hand.fails g.H.Hand.calls base c.args.hand.now c.claim_step.new.board c.run_claimed.new.board c.in_err-run_claimed-in-Some.ensures.err mid in
+    subst (λ hand. IsTied g.H.Honest.honest g.H.Hand.fails g.H.Hand.calls base hand c.run_claimed.new.board) (sym c.in_err-run_claimed-in-Some.ensures.same) new
+
+pub returns-in_ok-run_claimed-in-Some-clause-tied : goal.returns-in_ok-run_claimed-in-Some-clause-tied
+returns-in_ok-run_claimed-in-Some-clause-tied g c = λ base t.
+    let claimed = rw c.in-Some.is at c.in_ok-work.ensures.some in
+    let ended = c.in_ok-run_claimed-in-Some.ensures.ended in
+    tied-step g.H.Honest.honest g.H.Hand.fails g.H.Hand.calls base c.args.hand.now c.run_claimed.new.hand c.args.board.now c.claim_step.new.board c.run_claimed.new.board c.in-Some.work ended.0
+    claimed ended.1 ended.2 t

@@ -4,6 +4,8 @@ use Rattle.coordinator.proofs.Boards.{front-sound, front-worked}
 use Rattle.coordinator.proofs.Parts.{part-grown, written-worked}
 use Rattle.coordinator.proofs.Results.{err_of}
 use Rattle.coordinator.proofs.Worked.{sound-worked}
+use Rattle.std.proofs.Common.{refl}
+use Rattle.coordinator.proofs.Asked.{none-before}
 use Rattle.coordinator.proofs.turns.advance.Goals as goal
 
 pub returns-in_err-is_stepped-clause-front : goal.returns-in_err-is_stepped-clause-front
@@ -29,9 +31,19 @@ pub returns-clause-sound : goal.returns-clause-sound
 returns-clause-sound g c =
     let d = c.args.coordinator.now in
     let inputs = inputs_in d.script (map load_of d.loads.items) in
-    sound-worked inputs d.board c.run_step.new.board d.taken c.run_step.ensures.worked c.in_ok-is_stepped.ensures.idle c.requires.sound
+    sound-worked inputs d.board c.run_step.new.board d.taken c.run_step.ensures.worked c.in_ok-is_stepped.ensures.idle c.in_ok-is_stepped.ensures.tasks c.requires.sound
 
 pub returns-clause-written : goal.returns-clause-written
 returns-clause-written g c = λ before h.
     let d = c.args.coordinator.now in
     written-worked g.H.Honest.honest d.script d.board c.run_step.new.board before (g.S.Sink.written c.args.sink.now) c.run_step.ensures.worked h
+
+pub returns-in_err-is_stepped-clause-quiet : goal.returns-in_err-is_stepped-clause-quiet
+returns-in_err-is_stepped-clause-quiet g c = λ none.
+    let w = c.run_step.ensures.worked in
+    (none-before c.args.coordinator.now.board c.run_step.new.board w.later w.grown none, refl)
+
+pub returns-clause-quiet : goal.returns-clause-quiet
+returns-clause-quiet g c = λ none.
+    let w = c.run_step.ensures.worked in
+    (none-before c.args.coordinator.now.board c.run_step.new.board w.later w.grown none, refl)

@@ -7,6 +7,8 @@ use Rattle.coordinator.specs.declared.loads.SharedLoad.{SharedLoad}
 use Rattle.coordinator.proofs.Boards.{front-sound}
 use Rattle.coordinator.proofs.Parts.{counted-part, counted-taken, front-part, part-of-part, part-taken, sound-taken, written-taken}
 use Rattle.coordinator.proofs.Results.{err_of, ok_of, on_err, on_ok}
+use Rattle.coordinator.proofs.Asked.{part-before, taken-some}
+use Rattle.coordinator.proofs.TiedFacts.{tied-part, tied-taken}
 use Rattle.coordinator.proofs.turns.take_next.Goals as goal
 
 -- the line at the place
@@ -69,3 +71,26 @@ returns-clause-counted g c = λ base h.
     let line = c.index-lines-coordinator.result in
     let taken = subst (λ (loads : List SharedLoad). IsTaken g.H.Honest.honest (map load_of loads) d.board line c.in_ok-block.block c.take_line.new.board) c.deref.ensures.value c.in_ok-block.ensures.ok in
     counted-taken g.H.Hand.runs g.H.Hand.faults base (d.hand ∷ []) g.H.Honest.honest (map load_of d.loads.items) d.board c.index-lines-coordinator.result c.in_ok-block.block c.take_line.new.board taken h
+
+pub returns-in_err-block-clause-tied : goal.returns-in_err-block-clause-tied
+returns-in_err-block-clause-tied g c = λ base t.
+    let d = c.args.coordinator.now in
+    tied-part g.H.Honest.honest g.H.Hand.fails g.H.Hand.calls base d.hand d.board c.index-lines-coordinator.result c.take_line.new.board c.in_err-block.ensures.err t
+
+pub returns-clause-tied : goal.returns-clause-tied
+returns-clause-tied g c = λ base t.
+    let d = c.args.coordinator.now in
+    let line = c.index-lines-coordinator.result in
+    let taken = subst (λ (loads : List SharedLoad). IsTaken g.H.Honest.honest (map load_of loads) d.board line c.in_ok-block.block c.take_line.new.board) c.deref.ensures.value c.in_ok-block.ensures.ok in
+    tied-taken g.H.Honest.honest g.H.Hand.fails g.H.Hand.calls base d.hand (map load_of d.loads.items) d.board line c.in_ok-block.block c.take_line.new.board taken t
+
+pub returns-in_err-block-clause-quiet : goal.returns-in_err-block-clause-quiet
+returns-in_err-block-clause-quiet g c = λ none.
+    (part-before c.args.coordinator.now.board c.index-lines-coordinator.result c.take_line.new.board c.in_err-block.ensures.err none, refl)
+
+pub returns-clause-quiet : goal.returns-clause-quiet
+returns-clause-quiet g c = λ none.
+    let d = c.args.coordinator.now in
+    let line = c.index-lines-coordinator.result in
+    let taken = subst (λ (loads : List SharedLoad). IsTaken g.H.Honest.honest (map load_of loads) d.board line c.in_ok-block.block c.take_line.new.board) c.deref.ensures.value c.in_ok-block.ensures.ok in
+    absurd (taken-some g.H.Honest.honest (map load_of d.loads.items) d.board line c.in_ok-block.block c.take_line.new.board taken none)

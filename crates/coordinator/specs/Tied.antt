@@ -1,0 +1,36 @@
+-- What the coordinator keeps of the hand between two turns.
+use Rattle.std.specs.Prelude.{◌≡◌, ◌≢◌, ◌⊎◌, ◌++◌, ⊤, List, All, Option, Some, map, option_map}
+use Rattle.fixed_cube.specs.Cube.{fixed}
+use Rattle.job_board.specs.Ledger.{Ledger, turns}
+use Rattle.job_board.specs.declared.answers.Work.{Work}
+use Rattle.outside.specs.Hands.{Call, Fail, call_of, fault_for, with_call}
+use Rattle.run_history.specs.Commands.{Turn, event_of}
+use Rattle.run_history.specs.Commands.Turn.{Takes, Claims, StepEnds, QueryTakes, QueryEnds}
+use Rattle.run_history.specs.declared.event.Outcome.{Outcome}
+use Rattle.run_history.specs.declared.event.Outcome.TheVariants as outcome
+use Rattle.coordinator.specs.Ties.{AreCallsOf, EndsBy, IsEndBy, IsUndamaged}
+
+-- a turn that ends no step
+abbrev pub EndsNoStep : {Query : Type 0} → Turn Query → Type 0
+EndsNoStep (StepEnds job attempt outcome) = ⊥
+EndsNoStep (Takes line command) = ⊤
+EndsNoStep (Claims job attempt) = ⊤
+EndsNoStep (QueryTakes line) = ⊤
+EndsNoStep (QueryEnds line out) = ⊤
+
+-- what a hand did for the end of a step
+pub record HasRun {H : Type 0} (honest : Type 0) (fails : H → Option (List Fail)) (calls : H → Option (List Call)) (work : Work) (old new : H) (o : Outcome) : Type 0 where
+  pub fails_same : fails new ≡ fails old
+  pub follows : (told : List Fail) → fails old ≡ Some told → EndsBy (fault_for work.job work.attempt told) o
+  pub sound : honest → o ≢ outcome.Damaged
+  pub called : (calls new ≡ with_call (calls old) (call_of work.job work.attempt work.task.items)) ⊎ ((o ≡ outcome.Memory) × (calls new ≡ calls old))
+
+-- the turns of a board are tied to the hand: the ends of steps follow the faults that it tells, its calls are those of the ends, and where
+-- it is honest no product is Damaged
+pub record IsTied {H : Type 0} (honest : Type 0) (fails : H → Option (List Fail)) (calls : H → Option (List Call)) (base hand : H) (board : Ledger) : Type 0 where
+  pub fails_same : fails hand ≡ fails base
+  pub follows : (told : List Fail) → fails base ≡ Some told → All (IsEndBy told) (map event_of (turns board))
+  pub sound : honest → All IsUndamaged (map event_of (turns board))
+  pub new_calls : List Call
+  pub told_calls : calls hand ≡ option_map (λ before. before ++ new_calls) (calls base)
+  pub are_calls : AreCallsOf fixed honest board.workers (turns board) new_calls
