@@ -4,3 +4,5 @@ pub mod LayerFacts
 pub mod MadeFacts
 pub mod MaskFacts
 pub mod PieceFacts
+pub mod RunFacts
+pub mod ValueFacts

@@ -1,9 +1,9 @@
 -- The base cuboid of rows, from those of the pieces of the rows.
-use Rattle.std.proofs.Common.{◌≡◌, ◌≤◌, ◌<◌, ◌+◌, ◌-◌, ◌∙◌, ℕ, zero, suc, List, [], ◌∷◌, ◌++◌, Ok, Err, drop, get_or, length, map, refl, subst, sym, take, ap, arith, append_assoc}
+use Rattle.std.proofs.Common.{◌≡◌, ◌≤◌, ◌<◌, ◌+◌, ◌-◌, ◌∙◌, ℕ, zero, suc, List, [], ◌∷◌, ◌++◌, Ok, Err, drop, get_or, length, map, refl, sym, take, ap, arith, append_assoc}
 use Rattle.std.specs.Borrow.{Bor}
 use Rattle.std.specs.Prelude.{IfOk, Result, sum_by}
 use Rattle.std.specs.Cmp.Lexicographic.{nat_list_cmp_total}
-use Rattle.std.specs.List.{AllByRecursion, AllZip, flat_map, zip}
+use Rattle.std.specs.List.{AllByRecursion, AllZip, flat_map}
 use Rattle.std.proofs.lemmas.List.{append-nil, drop-drop, length-append, map-append, take-append-drop}
 use Rattle.std.proofs.lemmas.List.FromFn.{length-map-range_with_len}
 use Rattle.std.proofs.lemmas.List.Sums.{sum_by-append, sum_by-cons}
@@ -15,26 +15,15 @@ use Rattle.aggregation.proofs.CellFacts.{count_aggregate}
 use Rattle.cube_val.specs.declared.val.Val.{Val}
 use Rattle.plain_answer.specs.declared.ask.Agg.{Agg}
 use Rattle.cell_store.specs.Cells.{CellRows, ItemsAreFew, items_at, key_cmp}
-use Rattle.cell_store.specs.declared.cell.Cell.{Cell}
 use Rattle.cell_gather.specs.Gathers.{RowMeasure, aggregated, cells_of, forms_of, gathered}
 use Rattle.cell_gather.specs.Keys.{part_of}
-use Rattle.cell_gather.proofs.GatherFacts.{key_exact, law, rows_gathered}
+use Rattle.cell_gather.proofs.GatherFacts.{key_exact, law}
 use Rattle.cell_gather.proofs.KeyFacts.{whole_part}
-use Rattle.cell_gather.proofs.RowFacts.{items-cells, rows_gather}
-use Rattle.cell_gather.proofs.TableFacts.{IsToGather, Row, sum_mapped}
+use Rattle.cell_gather.proofs.RowFacts.{items-cells}
+use Rattle.cell_gather.proofs.TableFacts.{Row, sum_mapped}
 use Rattle.layer_builder.specs.Base.{IsBase, base_mask, form_of_kind, key_in, key_width, measures_from}
 use Rattle.layer_builder.proofs.BaseFacts.{forms_from}
 use Rattle.layer_builder.proofs.MaskFacts.{count_base}
-
--- ---- rows with their keys
-
-pub zipped : {R K C : Type 0} (key : R → K) (cells : R → C) (rows : List R) → zip (map key rows) (map cells rows) ≡ map (λ row. (key row, cells row)) rows
-zipped key cells [] = refl
-zipped key cells (row ∷ rows) = ap (λ l. (key row, cells row) ∷ l) (zipped key cells rows)
-
-pub zip-nil : {K C : Type 0} (ks : List K) → zip {X = C} ks [] ≡ []
-zip-nil [] = refl
-zip-nil (k ∷ ks) = refl
 
 -- ---- pieces
 
@@ -69,12 +58,12 @@ cut_off done rows all start end le whole =
 
 -- ---- items of a base cuboid
 
-sum_below : {X : Type 0} (f g : X → ℕ) → ((x : X) → f x ≤ g x) → (xs : List X) → sum_by f xs ≤ sum_by g xs
+pub sum_below : {X : Type 0} (f g : X → ℕ) → ((x : X) → f x ≤ g x) → (xs : List X) → sum_by f xs ≤ sum_by g xs
 sum_below f g le [] = omega arith
 sum_below f g le (x ∷ xs) = let a = sum_by-cons f x xs in let b = sum_by-cons g x xs in let rest = sum_below f g le xs in let here = le x in omega arith
 
 module _ {R : Type 0} where
-  length_laws : MeasureLaws {Item = R} (λ (n : ℕ). n) (λ rows. length rows) (λ a b. a + b)
+  pub length_laws : MeasureLaws {Item = R} (λ (n : ℕ). n) (λ rows. length rows) (λ a b. a + b)
   length_laws = record {
     associative = λ a b c. omega arith;
     commutative = λ a b. omega arith;
@@ -119,7 +108,7 @@ from_pieces ms dicts width few lists =
     let m = base_mask width in
     law ms (key_in dicts width) (part_of m m) lists ∙ (λ i. aggregated ms (λ row. whole_key dicts width few row i) (flat_map (λ rows. rows) lists))
 
--- ---- a piece
+-- ---- all pieces
 
 module _ (aggs : List Agg) (dicts : List (List Val)) (few_dims : key_width aggs dicts ≤ 64) where
   abbrev pub ms : List (RowMeasure (List Val))
@@ -131,30 +120,8 @@ module _ (aggs : List Agg) (dicts : List (List Val)) (few_dims : key_width aggs 
   abbrev pub kinds : List MeasureForm
   kinds = map (λ agg. form_of_kind agg.kind) aggs
 
-  abbrev pub alone : List Val → Row
-  alone row = (key row, cells_of ms (row ∷ []))
-
   abbrev pub base : Mask
   base = base_mask (key_width aggs dicts)
-
-  pub piece_rows : (keyed : List Row) (cells : List (List Cell)) (rows : List (List Val)) → keyed ≡ zip (map key rows) cells → cells ≡ map (λ row. cells_of ms (row ∷ [])) rows → keyed ≡ map alone rows
-  piece_rows keyed cells rows made alone_are = made ∙ ap (zip (map key rows)) alone_are ∙ zipped key (λ row. cells_of ms (row ∷ [])) rows
-
-  pub piece_gathers : (rows : List (List Val)) → length rows ≤ most_items → IsToGather base kinds (map alone rows)
-  piece_gathers rows few =
-      subst (λ (forms : List MeasureForm). IsToGather base forms (map alone rows)) (forms_from dicts (key_width aggs dicts) aggs)
-      (rows_gather base ms key rows (λ row. width_of_key dicts (key_width aggs dicts) row ∙ sym (count_base (key_width aggs dicts) few_dims)) few)
-
-  pub piece_is : {E : Type 0} (rows : List (List Val)) (result : Result CellRows E)
-      → IfOk result (λ t. t.mask ≡ base) → IfOk result (λ t. t.forms ≡ kinds) → IfOk result (λ t. t.rows ≡ gathered kinds (λ key. key) (map alone rows)) → IfOk result (IsBase aggs dicts rows)
-  piece_is rows (Ok t) mask forms gives = record {
-    mask = mask;
-    forms = forms;
-    rows = gives ∙ ap (λ fs. gathered fs (λ key. key) (map alone rows)) (sym (forms_from dicts (key_width aggs dicts) aggs)) ∙ rows_gathered ms key rows;
-  }
-  piece_is rows (Err e) mask forms gives = tt
-
-  -- ---- all pieces
 
   abbrev pub Piece : Type 0
   Piece = Bor (List (List Val))

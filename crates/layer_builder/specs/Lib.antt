@@ -1,3 +1,4 @@
 pub mod Base
 pub mod Cuboids
 pub mod Layers
+pub mod Runs

@@ -1,19 +1,23 @@
 // The base cuboid.
 
 ghost use Rattle.std.specs.Prelude.{◌≡◌, ◌≤◌, ◌<◌, ◌+◌, ◌^◌, ◌∷◌, [], All, IfOk, length, map};
-ghost use Rattle.std.specs.List.{AllZip, flat_map, zip};
+ghost use Rattle.std.specs.List.{AllZip, flat_map};
+ghost use Rattle.std.specs.List.Sorted.{IsSortedBy};
+ghost use Rattle.std.specs.Ordering.{is_lt};
 ghost use Rattle.measure_laws.specs.Measures.{most_items};
-ghost use Rattle.cell_gather.specs.Gathers.{cells_of, gathered};
+ghost use Rattle.cell_gather.specs.Gathers.{gathered};
 ghost use Rattle.cell_gather.specs.Keys.{part_of};
-ghost use Rattle.cell_store.specs.Cells.{ItemsAreFew};
-ghost use Rattle.layer_builder.specs.Base.{IsBase, base_mask, count_of_distincts, form_of_kind, key_in, key_width, measures_from};
+ghost use Rattle.cell_store.specs.Cells.{ItemsAreFew, key_cmp};
+ghost use Rattle.layer_builder.specs.Base.{IsBase, base_mask, count_of_distincts, form_of_kind, measures_from};
+ghost use Rattle.layer_builder.specs.Runs.{cells_by_key};
 
-use crate::cells::{distincts, forms_of, row_cells};
-use crate::keys::key_of;
+use crate::cells::{distincts, forms_of, run_cells};
+use crate::keys::keyed_rows;
 use crate::made::all_made;
+use crate::runs::{KeyedRow, run_len, sorted_rows};
 use agg_group::Mask;
-use cell_gather::{KeyedCells, add_rows, gather, kept_dims};
-use cell_store::{Cell, CellTable, Steps};
+use cell_gather::{add_rows, gather, kept_dims};
+use cell_store::{CellTable, Steps};
 use cube_val::Row;
 use dim_dictionary::DictSet;
 use measure_laws::MeasureForm;
@@ -36,41 +40,38 @@ fn base_mask(width: usize) -> Mask
     }
 }
 
-// The cells of each row alone.
-fn cells_alone(
+// The table of rows in the order of their keys: for each key the cells of its run.
+fn table_of(
     alloc: Global,
     dicts: &DictSet,
     width: usize,
     aggs: &[Agg],
-    rows: &[Row],
-) -> Result<Vec<Vec<Cell>>, AllocError>
+    forms: &[MeasureForm],
+    rows: &[KeyedRow],
+) -> Result<CellTable, AllocError>
     requires places { width + count_of_distincts aggs.now ≤ length dicts.now }
     requires fits { length dicts.now < 2 ^ 64 }
-    ensures { IfOk result (λ cells. map (λ v. v.items) cells.items ≡ map (λ row. cells_of (measures_from dicts.now width aggs.now) (row ∷ [])) rows.now) }
+    requires dims { width ≤ 64 }
+    requires forms { forms.now ≡ map (λ agg. form_of_kind agg.kind) aggs.now }
+    requires sorted { IsSortedBy (λ a b. is_lt (key_cmp a.0 b.0)) rows.now }
+    requires widths { All (λ row. length row.0 ≡ width) rows.now }
+    requires few { length rows.now ≤ most_items }
+    ensures mask { IfOk result (λ t. t.mask ≡ base_mask width) }
+    ensures forms { IfOk result (λ t. t.forms ≡ forms.now) }
+    ensures rows { IfOk result (λ t. t.rows ≡ cells_by_key (measures_from dicts.now width aggs.now) rows.now) }
 {
-    let mut cells = Vec::new(alloc);
-    for row in rows {
-        cells.push(row_cells(alloc, dicts, width, aggs, row)?)?;
+    let mut table = CellTable::new(alloc, base_mask(width), forms)?;
+    let mut start = 0;
+    while start < rows.len() {
+        let first = &rows[start];
+        let key = first.key.as_slice();
+        let rest = &rows[start..];
+        let n = run_len(rest, key);
+        let cells = run_cells(alloc, dicts, width, aggs, &rest[..n])?;
+        table.push(key, cells)?;
+        start += n;
     }
-    Ok(cells)
-}
-
-// Rows to gather: the key of each row, with its cells.
-fn keyed<'a>(
-    alloc: Global,
-    dicts: &DictSet,
-    width: usize,
-    rows: &[Row],
-    cells: &'a [Vec<Cell>],
-) -> Result<Vec<KeyedCells<'a>>, AllocError>
-    requires { width ≤ length dicts.now }
-    ensures { IfOk result (λ keyed. keyed.items ≡ zip (map (key_in dicts.now width) rows.now) (map (λ v. v.items) cells.now)) }
-{
-    let mut keyed = Vec::new(alloc);
-    for (row, cells) in rows.iter().zip(cells) {
-        keyed.push(KeyedCells::new(key_of(alloc, dicts, width, row)?, cells))?;
-    }
-    Ok(keyed)
+    Ok(table)
 }
 
 // The base cuboid of some rows.
@@ -88,9 +89,9 @@ fn piece(
     ensures { IfOk result (IsBase aggs.now dicts.now rows.now) }
 {
     let width = dicts.len() - distincts(aggs);
-    let cells = cells_alone(alloc, dicts, width, aggs, rows)?;
-    let keyed = keyed(alloc, dicts, width, rows, &cells)?;
-    gather(alloc, base_mask(width), forms, keyed)
+    let keyed = keyed_rows(alloc, dicts, width, rows)?;
+    let sorted = sorted_rows(keyed)?;
+    table_of(alloc, dicts, width, aggs, forms, &sorted)
 }
 
 // Rows cut into pieces of so many rows, and a shorter last one.

@@ -8,17 +8,22 @@
 //! rows, and `layer` makes many cuboids so. By `cuboids_of_rows` a table that is regrouped from the base, at once or by way
 //! of others, is the aggregate of the same rows.
 //!
-//! The modules: `keys`: keys of rows; `cells`: the cells of a row alone; `base_cuboid`: the base cuboid; `layers`: smaller ones;
-//! `made`: the results of pieces; `laws`: what the tables are of the rows.
+//! The modules: `recent`: where values were found lately; `column_dict`: the dictionary of a column; `keys`: keys of rows;
+//! `runs`: rows in the order of their keys; `cells`: the cells of rows of one key; `base_cuboid`: the base cuboid; `layers`:
+//! smaller ones; `made`: the results of pieces; `laws`: what the tables are of the rows.
 #![tactic(auto)]
 
 mod base_cuboid;
 mod cells;
+mod column_dict;
 mod keys;
 mod laws;
 mod layers;
 mod made;
+mod recent;
+mod runs;
 
 pub use base_cuboid::base;
+pub use column_dict::dict_of_column;
 pub use laws::cuboids_of_rows;
 pub use layers::{Want, layer, regroup};

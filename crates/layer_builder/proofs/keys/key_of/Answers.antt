@@ -8,4 +8,4 @@ pub loop-column-preserved : goal.loop-column-preserved
 loop-column-preserved c =
     let number : ℕ → ℕ = λ column. number_in (dict_at c.args.dicts.now column) (cell c.args.row.now column) in
     let d = c.loop-column.column in
-    c.in_ok-push.ensures.items ∙ (λ i. c.loop-column.invariant i ++ c.id_at.ensures i ∷ []) ∙ sym (map-range_with_len_more number 0 d d (omega arith))
+    c.in_ok-push.ensures.ok ∙ (λ i. c.loop-column.invariant i ++ c.number_in_column.ensures i ∷ []) ∙ sym (map-range_with_len_more number 0 d d (omega arith))

@@ -1,0 +1,77 @@
+// The dictionary of a column of rows.
+
+ghost use Rattle.std.specs.Prelude.{true, ◌≡◌, ◌⊎◌, ◌≤◌, ◌<◌, ◌^◌, ◌++◌, ◌∷◌, [], Contains, IfOk, OnOk, length, map};
+ghost use Rattle.dim_dictionary.specs.Dictionaries.{dictionary_of};
+ghost use Rattle.plain_answer.specs.Aggregates.{cell};
+
+use crate::recent::{Recent, are_equal};
+use cube_val::{Row, Val};
+use dim_dictionary::Dict;
+use std::alloc::{AllocError, Global};
+
+// Whether the value stands at the place.
+fn stands_at(values: &[Val], place: u32, v: &Val) -> bool
+    ensures { result ≡ true → Contains values.now v.now }
+{
+    match values.get(place as usize) {
+        Some(w) => are_equal(w, v),
+        None => false,
+    }
+}
+
+// Adds a value, unless it is found among those before it.
+fn add_value(
+    values: &mut Vec<Val>,
+    recent: &mut Recent,
+    column: usize,
+    v: &Val,
+) -> Result<(), AllocError>
+    ensures { OnOk result ((values.new.items ≡ values.old.items ++ v.now ∷ []) ⊎ ((values.new.items ≡ values.old.items) × Contains values.old.items v.now)) }
+{
+    let place = recent.place(column, v);
+    if stands_at(values, place, v) {
+        return Ok(());
+    }
+    if let Ok(place) = u32::try_from(values.len()) {
+        recent.keep(column, v, place);
+    }
+    values.push(v.copy()?)?;
+    Ok(())
+}
+
+// Adds a row's value in the column; one that isn't there reads as null.
+fn add_cell(
+    values: &mut Vec<Val>,
+    recent: &mut Recent,
+    column: usize,
+    row: &Row,
+) -> Result<(), AllocError>
+    ensures { OnOk result ((values.new.items ≡ values.old.items ++ cell row.now column ∷ []) ⊎ ((values.new.items ≡ values.old.items) × Contains values.old.items (cell row.now column))) }
+{
+    match row.vals().get(column) {
+        Some(v) => add_value(values, recent, column, v),
+        None => add_value(values, recent, column, &Val::Null),
+    }
+}
+
+// The values of the column, most of them once.
+fn values_of(alloc: Global, rows: &[Row], column: usize) -> Result<Vec<Val>, AllocError>
+    ensures dictionary { IfOk result (λ values. dictionary_of values.items ≡ dictionary_of (map (λ row. cell row column) rows.now)) }
+    ensures few { IfOk result (λ values. length values.items ≤ length rows.now) }
+{
+    let mut recent = Recent::new(alloc)?;
+    let mut values = Vec::new(alloc);
+    for row in rows {
+        add_cell(&mut values, &mut recent, column, row)?;
+    }
+    Ok(values)
+}
+
+/// The dictionary of a column of the rows. A column that isn't there reads as null.
+pub fn dict_of_column(alloc: Global, rows: &[Row], column: usize) -> Result<Dict, AllocError>
+    requires { length rows.now < 2 ^ 32 }
+    ensures { IfOk result (λ dict. dict ≡ dictionary_of (map (λ row. cell row column) rows.now)) }
+{
+    let values = values_of(alloc, rows, column)?;
+    Dict::from_values(alloc, &values)
+}
