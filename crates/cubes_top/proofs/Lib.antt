@@ -3,3 +3,5 @@ pub mod RunWords
 pub mod Refusals
 pub mod PlainFacts
 pub mod RestFacts
+pub mod SomeCommand
+pub mod HandFacts

@@ -105,6 +105,15 @@ complete-told given status (inr (inl e)) read write = absurd (write e)
 complete-told given status (inr (inr (inl e))) read write = inr e
 complete-told given status (inr (inr (inr e))) read write = absurd (read e)
 
+-- want of memory writes nothing
+pub refused-memory : (faults_old faults_new : ℕ) (old new : Option (List ℕ)) (refusal : InputRefusal) (status : ℕ) → Refuses faults_old faults_new old new refusal status → status ≡ 1 → new ≡ old
+refused-memory faults_old faults_new old new Memory status r e = r.1
+refused-memory faults_old faults_new old new (Fault fault) status r e = r.nothing e
+
+-- the inputs that told files give
+pub told-given : (given read : FixedInputs) → AnswersAs (Ok given) (Ok read) → given ≡ read
+told-given given read e = cc
+
 -- without an event no count has to rise
 pub none-risen : {H : Type 0} (count : H → ℕ) (ends : List Event → ℕ) → ends [] ≡ 0 → (old new : List H) (history : List Event) → new ≡ old → history ≡ [] → Risen count old new (ends history)
 none-risen {H = H} count ends zero_ends old new history h e =

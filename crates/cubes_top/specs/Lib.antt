@@ -3,3 +3,4 @@ pub mod Outside
 pub mod Plain
 pub mod Outcomes
 pub mod Rests
+pub mod Ties

@@ -1,21 +1,25 @@
 // The top call.
 
-ghost use Rattle.std.specs.Prelude.{◌≡◌, ◌≢◌, ◌⊎◌, [], ℕ, List, Ok, Result, length};
+ghost use Rattle.std.specs.Prelude.{◌≡◌, ◌≢◌, ◌⊎◌, ◌∷◌, [], ℕ, All, List, Ok, Result, length};
 ghost use Rattle.coordinator.specs.Coordinator.{AreGiven};
 ghost use Rattle.coordinator.specs.Runs.{IsRunOver, fault_ends, run_ends, status_of};
 ghost use Rattle.coordinator.specs.Served.{inputs_of};
+ghost use Rattle.coordinator.specs.Stops.{AsksAmong};
+ghost use Rattle.coordinator.specs.Ties.{IsEndBy, IsUndamaged, StandsAmong};
 ghost use Rattle.cubes_plain.specs.Outputs.{bad_words_line};
 ghost use Rattle.cubes_plain.specs.Steps.{IsStepRun, files_at, sink_at};
 ghost use Rattle.cubes_plain.specs.Words.{IsNoStep, IsStep};
 ghost use Rattle.fixed_cube.specs.Tasks.{IsTask, product_of};
 ghost use Rattle.outside.specs.Counts.{Rose};
-ghost use Rattle.outside.specs.Rises.{Risen};
+ghost use Rattle.outside.specs.Hands.{Fail};
+ghost use Rattle.outside.specs.Rises.{AllTell, AllTellThat, Risen, TellSame, entries_of};
 ghost use Rattle.run_inputs.specs.Laws.{TellsOutcomeAt};
 ghost use Rattle.run_inputs.specs.declared.fault.InputFault.{InputFault};
 ghost use Rattle.run_inputs.specs.declared.inputs.FixedInputs.{FixedInputs};
 ghost use Rattle.cubes_top.specs.Outcomes.{EndsAs, IsRun};
 ghost use Rattle.cubes_top.specs.Outside.{HasNoFault, seen};
 ghost use Rattle.cubes_top.specs.Plain.{HasLine, IsPlain};
+ghost use Rattle.cubes_top.specs.Ties.{HaveCalled, stops_over};
 ghost use Rattle.cubes_top.specs.Words.{AreBadWords, IsNoRun, IsRunOf};
 
 use crate::words::script_path;
@@ -77,6 +81,14 @@ fn run_over<R: Threads + Wait + Sync, H: Hand<SmallWork> + Drop, P: Stopper, S: 
     ensures ran { IsRunOver H.honest (inputs_of 1 inputs) result.history.items result.status (S.written sink.old) (S.written sink.new) }
     ensures runs { Risen H.runs hands.items result.hands.items (run_ends result.history.items) }
     ensures faults { Risen H.faults hands.items result.hands.items (fault_ends result.history.items) }
+    ensures fails { (told : List Fail) → AllTellThat H.fails told hands.items → All (IsEndBy told) result.history.items }
+    ensures fails_stand { AllTell H.fails hands.items → All (StandsAmong (entries_of H.fails hands.items)) result.history.items }
+    ensures fails_same { TellSame H.fails hands.items result.hands.items }
+    ensures calls { HaveCalled H.calls H.honest inputs result.history.items hands.items result.hands.items }
+    ensures undamaged { H.honest → All IsUndamaged result.history.items }
+    ensures asks { Risen P.asks (stopper.old ∷ []) (stopper.new ∷ []) (length (stops_over inputs result.history.items)) }
+    ensures requests { AsksAmong (stops_over inputs result.history.items) (P.requests stopper.old) (P.requests stopper.new) }
+    ensures quiet { inputs.script ≢ [] → result.history.items ≡ [] → S.written sink.new ≡ S.written sink.old }
     ensures back { length result.hands.items ≡ 1 }
     ensures status { (result.status ≡ DONE) ⊎ (result.status ≡ MEMORY) ⊎ (result.status ≡ WRITE_FAULT) }
     ensures failed { result.status ≡ WRITE_FAULT → Rose (S.faults sink.old) (S.faults sink.new) }
@@ -119,6 +131,17 @@ fn run_at<R: Threads + Wait + Sync, F: Files, H: Hand<SmallWork> + Drop, P: Stop
     ensures same { (result.status ≡ DONE) ⊎ (result.status ≡ MEMORY) ⊎ (result.status ≡ WRITE_FAULT) ⊎ (result.hands.items ≡ hands.items) }
     ensures runs { Risen H.runs hands.items result.hands.items (run_ends result.history.items) }
     ensures faults { Risen H.faults hands.items result.hands.items (fault_ends result.history.items) }
+    ensures fails { (told : List Fail) → AllTellThat H.fails told hands.items → All (IsEndBy told) result.history.items }
+    ensures fails_stand { AllTell H.fails hands.items → All (StandsAmong (entries_of H.fails hands.items)) result.history.items }
+    ensures fails_same { TellSame H.fails hands.items result.hands.items }
+    ensures calls { (given : FixedInputs) → TellsOutcomeAt (F.contents files.old) path.now (Ok given)
+        → HaveCalled H.calls H.honest given result.history.items hands.items result.hands.items }
+    ensures undamaged { H.honest → All IsUndamaged result.history.items }
+    ensures asks { (given : FixedInputs) → TellsOutcomeAt (F.contents files.old) path.now (Ok given)
+        → Risen P.asks (stopper.old ∷ []) (stopper.new ∷ []) (length (stops_over given result.history.items)) }
+    ensures requests { (given : FixedInputs) → TellsOutcomeAt (F.contents files.old) path.now (Ok given)
+        → AsksAmong (stops_over given result.history.items) (P.requests stopper.old) (P.requests stopper.new) }
+    ensures quiet { result.status ≡ MEMORY → result.history.items ≡ [] → S.written sink.new ≡ S.written sink.old }
     ensures contents { F.contents files.new ≡ F.contents files.old }
     ensures write_faults { F.write_faults files.new ≡ F.write_faults files.old }
 {
@@ -187,6 +210,29 @@ pub fn run<
     ensures same_plain { IsNoRun words.now → result.hands.items ≡ hands.items }
     ensures runs { Risen H.runs hands.items result.hands.items (run_ends result.history.items) }
     ensures faults { Risen H.faults hands.items result.hands.items (fault_ends result.history.items) }
+
+    // The faults that attempts meet. Where all hands tell the same, each end of a step is by the first one of its attempt, or by none; where
+    // each hand tells some, an end with a hand's fault has it among them. No run changes them.
+    ensures fails { (told : List Fail) → AllTellThat H.fails told hands.items → All (IsEndBy told) result.history.items }
+    ensures fails_stand { AllTell H.fails hands.items → All (StandsAmong (entries_of H.fails hands.items)) result.history.items }
+    ensures fails_same { TellSame H.fails hands.items result.hands.items }
+
+    // The hands' calls, where they tell them: the new ones are those of the ends of steps, and where hands are honest, each has the task of
+    // its step. No product of an honest hand is Damaged.
+    ensures calls { (path : List ℕ) (given : FixedInputs) → IsRunOf words.now path → TellsOutcomeAt (F.contents files.old) path (Ok given)
+        → HaveCalled H.calls H.honest given result.history.items hands.items result.hands.items }
+    ensures undamaged { H.honest → All IsUndamaged result.history.items }
+
+    // The stopper's count covers the attempts that commands found in flight, and its new requests are among these. Without a run it is as it
+    // was.
+    ensures asks { (path : List ℕ) (given : FixedInputs) → IsRunOf words.now path → TellsOutcomeAt (F.contents files.old) path (Ok given)
+        → Risen P.asks (stopper.old ∷ []) (stopper.new ∷ []) (length (stops_over given result.history.items)) }
+    ensures requests { (path : List ℕ) (given : FixedInputs) → IsRunOf words.now path → TellsOutcomeAt (F.contents files.old) path (Ok given)
+        → AsksAmong (stops_over given result.history.items) (P.requests stopper.old) (P.requests stopper.new) }
+    ensures stopper_same { IsNoRun words.now → stopper.new ≡ stopper.old }
+
+    // Want of memory before the first event leaves nothing written.
+    ensures quiet { result.status ≡ MEMORY → result.history.items ≡ [] → S.written sink.new ≡ S.written sink.old }
 
     // With every word but `step` the files stay as they were, and no write of a file failed.
     ensures contents { IsNoStep words.now → F.contents files.new ≡ F.contents files.old }

@@ -1,6 +1,13 @@
 use Rattle.std.proofs.Common.{◌≡◌, ◌⊎◌, ℕ, List, Ok, refl, sym, ◌∙◌, subst, inr}
 use Rattle.std.specs.String.{string_bytes}
 use Rattle.coordinator.specs.Runs.{fault_ends, run_ends}
+use Rattle.coordinator.specs.Served.{inputs_of}
+use Rattle.coordinator.specs.Ties.{IsEndBy, IsUndamaged, StandsAmong}
+use Rattle.coordinator.proofs.Asked.{asks-none, requests-none}
+use Rattle.coordinator.proofs.TiedFacts.{none-all}
+use Rattle.outside.specs.Rises.{entries_of}
+use Rattle.cubes_top.specs.Ties.{stops_over}
+use Rattle.cubes_top.proofs.HandFacts.{called-none, same-none}
 use Rattle.run_inputs.specs.Laws.{TellsOutcomeAt}
 use Rattle.run_inputs.specs.declared.fault.InputRefusal.TheVariants.{Memory}
 use Rattle.cubes_top.specs.Outcomes.{IsRun}
@@ -58,6 +65,27 @@ returns-in-Ok-Some-clause-no_command g c = λ bad. absurd (bad.0 (string_bytes c
 
 pub returns-in-Ok-Some-clause-bad_words_line : goal.returns-in-Ok-Some-clause-bad_words_line
 returns-in-Ok-Some-clause-bad_words_line g c = λ e. absurd (c.run_at.ensures.good_words e)
+
+pub returns-in-Ok-Some-clause-calls : goal.returns-in-Ok-Some-clause-calls
+returns-in-Ok-Some-clause-calls g c = λ path given r t.
+    let said = rw c.in-Ok-Some.field-0-is at c.in-Ok-Some.ensures.some in
+    let same = c.as_str.ensures.value ∙ one_run c.args.words.now (string_bytes c.in-Ok-Some.path) path said r in
+    c.run_at.ensures.calls given (subst (λ (p : List ℕ). TellsOutcomeAt (g.F.Files.contents c.args.files.now) p (Ok given)) (sym same) t)
+
+pub returns-in-Ok-Some-clause-asks : goal.returns-in-Ok-Some-clause-asks
+returns-in-Ok-Some-clause-asks g c = λ path given r t.
+    let said = rw c.in-Ok-Some.field-0-is at c.in-Ok-Some.ensures.some in
+    let same = c.as_str.ensures.value ∙ one_run c.args.words.now (string_bytes c.in-Ok-Some.path) path said r in
+    c.run_at.ensures.asks given (subst (λ (p : List ℕ). TellsOutcomeAt (g.F.Files.contents c.args.files.now) p (Ok given)) (sym same) t)
+
+pub returns-in-Ok-Some-clause-requests : goal.returns-in-Ok-Some-clause-requests
+returns-in-Ok-Some-clause-requests g c = λ path given r t.
+    let said = rw c.in-Ok-Some.field-0-is at c.in-Ok-Some.ensures.some in
+    let same = c.as_str.ensures.value ∙ one_run c.args.words.now (string_bytes c.in-Ok-Some.path) path said r in
+    c.run_at.ensures.requests given (subst (λ (p : List ℕ). TellsOutcomeAt (g.F.Files.contents c.args.files.now) p (Ok given)) (sym same) t)
+
+pub returns-in-Ok-Some-clause-stopper_same : goal.returns-in-Ok-Some-clause-stopper_same
+returns-in-Ok-Some-clause-stopper_same g c = λ no_run. absurd (no_run (string_bytes c.in-Ok-Some.path) (rw c.in-Ok-Some.field-0-is at c.in-Ok-Some.ensures.some))
 
 -- ---- words that are no run
 
@@ -122,6 +150,30 @@ returns-in-Ok-None-clause-runs g c = none-risen g.H.Hand.runs run_ends refl c.ar
 pub returns-in-Ok-None-clause-faults : goal.returns-in-Ok-None-clause-faults
 returns-in-Ok-None-clause-faults g c = none-risen g.H.Hand.faults fault_ends refl c.args.hands.items c.without_run.result.hands.items c.without_run.result.history.items c.without_run.ensures.hands c.without_run.ensures.none
 
+pub returns-in-Ok-None-clause-fails : goal.returns-in-Ok-None-clause-fails
+returns-in-Ok-None-clause-fails g c = λ told all. none-all (IsEndBy told) c.without_run.result.history.items c.without_run.ensures.none
+
+pub returns-in-Ok-None-clause-fails_stand : goal.returns-in-Ok-None-clause-fails_stand
+returns-in-Ok-None-clause-fails_stand g c = λ all. none-all (StandsAmong (entries_of g.H.Hand.fails c.args.hands.items)) c.without_run.result.history.items c.without_run.ensures.none
+
+pub returns-in-Ok-None-clause-fails_same : goal.returns-in-Ok-None-clause-fails_same
+returns-in-Ok-None-clause-fails_same g c = same-none g.H.Hand.fails c.args.hands.items c.without_run.result.hands.items c.without_run.ensures.hands
+
+pub returns-in-Ok-None-clause-undamaged : goal.returns-in-Ok-None-clause-undamaged
+returns-in-Ok-None-clause-undamaged g c = λ honest. none-all IsUndamaged c.without_run.result.history.items c.without_run.ensures.none
+
+pub returns-in-Ok-None-clause-calls : goal.returns-in-Ok-None-clause-calls
+returns-in-Ok-None-clause-calls g c = λ path given r t. absurd (rw c.in-Ok-None.field-0-is at c.in-Ok-None.ensures.none path r)
+
+pub returns-in-Ok-None-clause-asks : goal.returns-in-Ok-None-clause-asks
+returns-in-Ok-None-clause-asks g c = λ path given r t. absurd (rw c.in-Ok-None.field-0-is at c.in-Ok-None.ensures.none path r)
+
+pub returns-in-Ok-None-clause-requests : goal.returns-in-Ok-None-clause-requests
+returns-in-Ok-None-clause-requests g c = λ path given r t. absurd (rw c.in-Ok-None.field-0-is at c.in-Ok-None.ensures.none path r)
+
+pub returns-in-Ok-None-clause-quiet : goal.returns-in-Ok-None-clause-quiet
+returns-in-Ok-None-clause-quiet g c = λ memory none. c.run_plain-status.ensures.memory (sym c.without_run.ensures.status ∙ memory)
+
 -- ---- want of memory for the words
 
 pub returns-in-Err-clause-ran : goal.returns-in-Err-clause-ran
@@ -148,3 +200,28 @@ returns-in-Err-clause-runs g c = none-risen g.H.Hand.runs run_ends refl c.args.h
 
 pub returns-in-Err-clause-faults : goal.returns-in-Err-clause-faults
 returns-in-Err-clause-faults g c = none-risen g.H.Hand.faults fault_ends refl c.args.hands.items c.without_run-in-Err.result.hands.items c.without_run-in-Err.result.history.items c.without_run-in-Err.ensures.hands c.without_run-in-Err.ensures.none
+
+pub returns-in-Err-clause-fails : goal.returns-in-Err-clause-fails
+returns-in-Err-clause-fails g c = λ told all. none-all (IsEndBy told) c.without_run-in-Err.result.history.items c.without_run-in-Err.ensures.none
+
+pub returns-in-Err-clause-fails_stand : goal.returns-in-Err-clause-fails_stand
+returns-in-Err-clause-fails_stand g c = λ all. none-all (StandsAmong (entries_of g.H.Hand.fails c.args.hands.items)) c.without_run-in-Err.result.history.items c.without_run-in-Err.ensures.none
+
+pub returns-in-Err-clause-fails_same : goal.returns-in-Err-clause-fails_same
+returns-in-Err-clause-fails_same g c = same-none g.H.Hand.fails c.args.hands.items c.without_run-in-Err.result.hands.items c.without_run-in-Err.ensures.hands
+
+pub returns-in-Err-clause-undamaged : goal.returns-in-Err-clause-undamaged
+returns-in-Err-clause-undamaged g c = λ honest. none-all IsUndamaged c.without_run-in-Err.result.history.items c.without_run-in-Err.ensures.none
+
+pub returns-in-Err-clause-calls : goal.returns-in-Err-clause-calls
+returns-in-Err-clause-calls g c = λ path given r t.
+    called-none g.H.Hand.calls g.H.Honest.honest given c.without_run-in-Err.result.history.items c.args.hands.items c.without_run-in-Err.result.hands.items c.without_run-in-Err.ensures.hands
+    c.without_run-in-Err.ensures.none
+
+pub returns-in-Err-clause-asks : goal.returns-in-Err-clause-asks
+returns-in-Err-clause-asks g c = λ path given r t.
+    asks-none c.args.stopper.now c.args.stopper.now refl g.P.Stopper.asks (inputs_of 1 given) c.without_run-in-Err.result.history.items c.without_run-in-Err.ensures.none
+
+pub returns-in-Err-clause-requests : goal.returns-in-Err-clause-requests
+returns-in-Err-clause-requests g c = λ path given r t.
+    requests-none c.args.stopper.now c.args.stopper.now refl g.P.Stopper.requests (stops_over given c.without_run-in-Err.result.history.items)

@@ -1,9 +1,19 @@
-use Rattle.std.proofs.Common.{ℕ, Err, refl, sym, ap, ◌∙◌, subst, inl, inr}
+use Rattle.std.proofs.Common.{[], ◌∷◌, ℕ, Ok, Err, length, refl, sym, ap, ◌∙◌, subst, inl, inr}
 use Rattle.coordinator.specs.Runs.{fault_ends, run_ends}
+use Rattle.coordinator.specs.Served.{inputs_of}
+use Rattle.coordinator.specs.Stops.{AsksAmong}
+use Rattle.coordinator.specs.Ties.{IsEndBy, IsUndamaged, StandsAmong}
+use Rattle.coordinator.proofs.Asked.{asks-none, requests-none}
+use Rattle.coordinator.proofs.TiedFacts.{none-all}
+use Rattle.outside.specs.Rises.{Risen, entries_of}
+use Rattle.run_inputs.specs.declared.inputs.FixedInputs.{FixedInputs}
 use Rattle.run_refusal.specs.Lines.{Refuses}
 use Rattle.cubes_top.specs.Outcomes.{EndsAs}
+use Rattle.cubes_top.specs.Ties.{HaveCalled, stops_over}
 use Rattle.cubes_top.proofs.Given.{given-by}
-use Rattle.cubes_top.proofs.Refusals.{none-risen, refusal-is, refused-no_words, refused-no_write, refused-status, refused-unread, run-no_words, run-unread, told-refused, told-run}
+use Rattle.cubes_top.proofs.HandFacts.{called-none, same-none}
+use Rattle.cubes_top.proofs.SomeCommand.{some-command}
+use Rattle.cubes_top.proofs.Refusals.{none-risen, refusal-is, refused-memory, refused-no_words, refused-no_write, refused-status, refused-unread, run-no_words, run-unread, told-given, told-refused, told-run}
 use Rattle.cubes_top.proofs.top.run_at.Goals as goal
 
 -- ---- over inputs
@@ -22,6 +32,25 @@ returns-in-Ok-clause-good_words g c = run-no_words c.run_over.result.status c.ru
 
 pub returns-in-Ok-clause-read_fault : goal.returns-in-Ok-clause-read_fault
 returns-in-Ok-clause-read_fault g c = λ e. absurd (run-unread c.run_over.result.status c.run_over.ensures.status e)
+
+pub returns-in-Ok-clause-calls : goal.returns-in-Ok-clause-calls
+returns-in-Ok-clause-calls g c = λ given t.
+    let same = told-given given c.in-Ok.inputs (c.in-Ok.ensures.told (Ok given) t) in
+    subst (λ (i : FixedInputs). HaveCalled g.H.Hand.calls g.H.Honest.honest i c.run_over.result.history.items c.args.hands.items c.run_over.result.hands.items) (sym same) c.run_over.ensures.calls
+
+pub returns-in-Ok-clause-asks : goal.returns-in-Ok-clause-asks
+returns-in-Ok-clause-asks g c = λ given t.
+    let same = told-given given c.in-Ok.inputs (c.in-Ok.ensures.told (Ok given) t) in
+    subst (λ (i : FixedInputs). Risen g.P.Stopper.asks (c.args.stopper.now ∷ []) (c.run_over.new.stopper ∷ []) (length (stops_over i c.run_over.result.history.items))) (sym same) c.run_over.ensures.asks
+
+pub returns-in-Ok-clause-requests : goal.returns-in-Ok-clause-requests
+returns-in-Ok-clause-requests g c = λ given t.
+    let same = told-given given c.in-Ok.inputs (c.in-Ok.ensures.told (Ok given) t) in
+    subst (λ (i : FixedInputs). AsksAmong (stops_over i c.run_over.result.history.items) (g.P.Stopper.requests c.args.stopper.now) (g.P.Stopper.requests c.run_over.new.stopper)) (sym same) c.run_over.ensures.requests
+
+pub returns-in-Ok-clause-quiet : goal.returns-in-Ok-clause-quiet
+returns-in-Ok-clause-quiet g c = λ memory none.
+    c.run_over.ensures.quiet (some-command (g.F.Files.contents c.args.files.now) c.args.path.now c.in-Ok.inputs c.in-Ok.ensures.ok) none
 
 -- ---- refused
 
@@ -54,3 +83,31 @@ returns-in-Err-clause-runs g c = none-risen g.H.Hand.runs run_ends refl c.args.h
 
 pub returns-in-Err-clause-faults : goal.returns-in-Err-clause-faults
 returns-in-Err-clause-faults g c = none-risen g.H.Hand.faults fault_ends refl c.args.hands.items c.without_run.result.hands.items c.without_run.result.history.items c.without_run.ensures.hands c.without_run.ensures.none
+
+pub returns-in-Err-clause-fails : goal.returns-in-Err-clause-fails
+returns-in-Err-clause-fails g c = λ told all. none-all (IsEndBy told) c.without_run.result.history.items c.without_run.ensures.none
+
+pub returns-in-Err-clause-fails_stand : goal.returns-in-Err-clause-fails_stand
+returns-in-Err-clause-fails_stand g c = λ all. none-all (StandsAmong (entries_of g.H.Hand.fails c.args.hands.items)) c.without_run.result.history.items c.without_run.ensures.none
+
+pub returns-in-Err-clause-fails_same : goal.returns-in-Err-clause-fails_same
+returns-in-Err-clause-fails_same g c = same-none g.H.Hand.fails c.args.hands.items c.without_run.result.hands.items c.without_run.ensures.hands
+
+pub returns-in-Err-clause-calls : goal.returns-in-Err-clause-calls
+returns-in-Err-clause-calls g c = λ given t.
+    called-none g.H.Hand.calls g.H.Honest.honest given c.without_run.result.history.items c.args.hands.items c.without_run.result.hands.items c.without_run.ensures.hands c.without_run.ensures.none
+
+pub returns-in-Err-clause-undamaged : goal.returns-in-Err-clause-undamaged
+returns-in-Err-clause-undamaged g c = λ honest. none-all IsUndamaged c.without_run.result.history.items c.without_run.ensures.none
+
+pub returns-in-Err-clause-asks : goal.returns-in-Err-clause-asks
+returns-in-Err-clause-asks g c = λ given t.
+    asks-none c.args.stopper.now c.args.stopper.now refl g.P.Stopper.asks (inputs_of 1 given) c.without_run.result.history.items c.without_run.ensures.none
+
+pub returns-in-Err-clause-requests : goal.returns-in-Err-clause-requests
+returns-in-Err-clause-requests g c = λ given t.
+    requests-none c.args.stopper.now c.args.stopper.now refl g.P.Stopper.requests (stops_over given c.without_run.result.history.items)
+
+pub returns-in-Err-clause-quiet : goal.returns-in-Err-clause-quiet
+returns-in-Err-clause-quiet g c = λ memory none.
+    refused-memory _ _ _ _ c.in-Err.refusal c.refuse_inputs-status.result c.refuse_inputs-status.ensures (sym c.without_run.ensures.status ∙ memory)
