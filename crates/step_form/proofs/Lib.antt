@@ -1,0 +1,11 @@
+pub mod CubeFacts
+pub mod ExactFiles
+pub mod ExactProducts
+pub mod ExactTasks
+pub mod FileReads
+pub mod LayoutFacts
+pub mod ProductReads
+pub mod ReadFacts
+pub mod SealFacts
+pub mod ShortFacts
+pub mod WorkReads

@@ -1,0 +1,5 @@
+pub mod Cubes
+pub mod Files
+pub mod Laws
+pub mod Products
+pub mod Tasks
