@@ -1,7 +1,7 @@
 use super::*;
 use cube_val::{Items, WideCol};
 use std::alloc::{AllocError, Global};
-use std::test::Fail;
+use std::process::Abort;
 
 // A cube of a fact table F and a lookup L, with ' for ".
 const BASE: &str =
@@ -184,159 +184,235 @@ const CASES: &str = "\
 'f.k'|'f.k','f.m'|['F.D','F.K']|[]|BadRowkey /rowkey/2
 ";
 
-fn with_quotes(alloc: Global, text: &str) -> Result<String, AllocError> {
-    text.chars()
+fn with_quotes(rt: &impl Abort, alloc: Global, text: &str) -> String {
+    let quoted: Result<String, AllocError> = text
+        .chars()
         .map(|c| if c == '\'' { '"' } else { c })
-        .collect(alloc)
+        .collect(alloc);
+    quoted.expect(rt, "memory")
 }
 
 // The text with the first `old` changed to `new`.
-fn changed(alloc: Global, text: &str, old: &str, new: &str) -> Result<String, AllocError> {
-    match text.split_once(old) {
+fn changed(rt: &impl Abort, alloc: Global, text: &str, old: &str, new: &str) -> String {
+    let changed = match text.split_once(old) {
         Some((before, after)) => format!(in alloc; "{before}{new}{after}"),
         None => String::from_str(alloc, text),
+    };
+    changed.expect(rt, "memory")
+}
+
+fn shown_fault(alloc: Global, fault: &DescFault) -> Result<String, AllocError> {
+    let place = str::from_utf8(fault.place.bytes()).unwrap_or("?");
+    let kind = fault.kind;
+    if place.is_empty() {
+        format!(in alloc; "{kind:?}")
+    } else {
+        format!(in alloc; "{kind:?} {place}")
     }
 }
 
-fn answer(alloc: Global, bytes: &[u8]) -> Result<String, AllocError> {
+fn shown_answer(alloc: Global, bytes: &[u8]) -> Result<String, AllocError> {
     match read_desc(alloc, bytes) {
-        Ok(_) => String::from_str(alloc, "ok"),
-        Err(DescRefusal::Fault(fault)) => {
-            let place = str::from_utf8(fault.place.bytes()).unwrap_or("?");
-            let kind = fault.kind;
-            if place.is_empty() {
-                format!(in alloc; "{kind:?}")
-            } else {
-                format!(in alloc; "{kind:?} {place}")
-            }
+        Ok(desc) => {
+            drop(desc);
+            String::from_str(alloc, "ok")
         }
+        Err(DescRefusal::Fault(fault)) => shown_fault(alloc, &fault),
         Err(DescRefusal::Memory) => String::from_str(alloc, "no memory"),
     }
 }
 
+fn answer(rt: &impl Abort, alloc: Global, bytes: &[u8]) -> String {
+    shown_answer(alloc, bytes).expect(rt, "memory")
+}
+
+// An item, `#` standing for a number.
+fn push_copy(rt: &impl Abort, text: &mut String, number: &str, item: &str) {
+    for c in item.chars() {
+        if c == '#' {
+            text.push_str(number).expect(rt, "memory");
+        } else {
+            text.push(c).expect(rt, "memory");
+        }
+    }
+}
+
 // The copies of an item, `#` standing for the number of each, from 0 on.
-fn copies(alloc: Global, count: &str, item: &str) -> Result<String, AllocError> {
+fn copies(rt: &impl Abort, alloc: Global, count: &str, item: &str) -> String {
     let mut text = String::new(alloc);
     for i in 0..count.parse::<u32>().unwrap_or(0) {
         if i > 0 {
-            text.push_str(",")?;
+            text.push(',').expect(rt, "memory");
         }
-        for c in item.chars() {
-            if c == '#' {
-                text.push_str(i.to_string(alloc)?.as_str())?;
-            } else {
-                text.push(c)?;
-            }
-        }
+        let number = i.to_string(alloc).expect(rt, "memory");
+        push_copy(rt, &mut text, number.as_str(), item);
     }
-    Ok(text)
+    text
 }
 
 // The text with the copies written out.
-fn written_out(alloc: Global, text: &str) -> Result<String, AllocError> {
+fn written_out(rt: &impl Abort, alloc: Global, text: &str) -> String {
     let mut fields = text.split('~');
     let before = fields.next().unwrap_or("");
     let count = fields.next().unwrap_or("");
     let item = fields.next().unwrap_or("");
     let after = fields.next().unwrap_or("");
-    let items = copies(alloc, count, item)?;
-    format!(in alloc; "{before}{items}{after}")
+    let items = copies(rt, alloc, count, item);
+    let text = format!(in alloc; "{before}{items}{after}");
+    text.expect(rt, "memory")
 }
 
-fn answer_of_case(alloc: Global, changes: &str) -> Result<String, AllocError> {
-    let mut text = String::from_str(alloc, BASE)?;
-    let mut old = None;
-    for field in changes.split('|') {
-        old = match old {
-            None => Some(field),
-            Some(before) => {
-                let new = written_out(alloc, field)?;
-                text = changed(alloc, text.as_str(), before, new.as_str())?;
-                None
-            }
-        };
-    }
-    let text = with_quotes(alloc, text.as_str())?;
-    answer(alloc, text.as_bytes())
+// The text with the first `old` changed to what `new` writes out; as it is where none is given.
+fn changed_by(
+    rt: &impl Abort,
+    alloc: Global,
+    text: &str,
+    old: Option<&str>,
+    new: Option<&str>,
+) -> String {
+    let new = written_out(rt, alloc, new.unwrap_or(""));
+    changed(rt, alloc, text, old.unwrap_or(""), new.as_str())
+}
+
+// Of the base with at most three changes.
+fn answer_of_case(rt: &impl Abort, alloc: Global, changes: &str) -> String {
+    let mut fields = changes.split('|');
+    let once = changed_by(rt, alloc, BASE, fields.next(), fields.next());
+    let twice = changed_by(rt, alloc, once.as_str(), fields.next(), fields.next());
+    let all = changed_by(rt, alloc, twice.as_str(), fields.next(), fields.next());
+    assert!(rt; fields.next() == None, "{changes}");
+    let text = with_quotes(rt, alloc, all.as_str());
+    answer(rt, alloc, text.as_bytes())
+}
+
+fn same(rt: &impl Abort, got: &str, want: &str, case: &str) {
+    assert!(rt; got == want, "{case}: {got}");
+}
+
+// A line of the cases.
+fn check_case(rt: &impl Abort, alloc: Global, line: &str) {
+    let (changes, want) = line.rsplit_once('|').expect(rt, "a line has an answer");
+    let got = answer_of_case(rt, alloc, changes);
+    same(rt, got.as_str(), want, line);
+}
+
+// A text with ' for ".
+fn check_text(rt: &impl Abort, alloc: Global, text: &str, want: &str) {
+    let text = with_quotes(rt, alloc, text);
+    let got = answer(rt, alloc, text.as_bytes());
+    same(rt, got.as_str(), want, want);
+}
+
+fn check_no_json(rt: &impl Abort, alloc: Global, bytes: &[u8]) {
+    let got = answer(rt, alloc, bytes);
+    same(rt, got.as_str(), "NotJson", "no JSON");
 }
 
 #[test]
-fn each_fault_and_its_place(rt: HostRuntime) -> Result<(), Fail> {
-    let alloc = rt.alloc();
+fn each_fault_and_its_place(rt: HostRuntime) {
     for line in CASES.lines() {
-        let (changes, want) = line.rsplit_once('|').ok_or("a line has an answer")?;
-        let got = answer_of_case(alloc, changes)?;
-        assert_eq!(rt; got.as_str(), want, "{line}");
+        check_case(&rt, rt.alloc(), line);
     }
-    let wide = with_quotes(alloc, WIDE)?;
-    let got = answer(alloc, wide.as_bytes())?;
-    assert_eq!(rt; got.as_str(), "TooManyCuboids /aggregation_groups");
-    let grouped = changed(alloc, WIDE, "'F.K']}]", "'F.K']},{'includes':[]}]")?;
-    let grouped = with_quotes(alloc, grouped.as_str())?;
-    let got = answer(alloc, grouped.as_bytes())?;
-    assert_eq!(rt; got.as_str(), "BadGroup /aggregation_groups/1");
-    assert_eq!(rt; answer(alloc, b"{\"name\":\"\xff\"}")?.as_str(), "NotJson");
-    assert_eq!(rt; answer(alloc, &[b'['; 200])?.as_str(), "NotJson");
-    Ok(())
 }
 
 #[test]
-fn numbers_for_names(rt: HostRuntime) -> Result<(), Fail> {
-    let alloc = rt.alloc();
-    let text = with_quotes(alloc, BASE)?;
-    let desc = match read_desc(alloc, text.as_bytes()) {
+fn too_many_cuboids(rt: HostRuntime) {
+    check_text(&rt, rt.alloc(), WIDE, "TooManyCuboids /aggregation_groups");
+}
+
+#[test]
+fn a_group_of_nothing_comes_first(rt: HostRuntime) {
+    let (old, new) = ("'F.K']}]", "'F.K']},{'includes':[]}]");
+    let grouped = changed(&rt, rt.alloc(), WIDE, old, new);
+    let want = "BadGroup /aggregation_groups/1";
+    check_text(&rt, rt.alloc(), grouped.as_str(), want);
+}
+
+#[test]
+fn no_json(rt: HostRuntime) {
+    check_no_json(&rt, rt.alloc(), b"{\"name\":\"\xff\"}");
+    check_no_json(&rt, rt.alloc(), &[b'['; 200]);
+}
+
+// The descriptor of a text with ' for ".
+fn desc_of(rt: &impl Abort, alloc: Global, text: &str) -> CubeDesc {
+    let text = with_quotes(rt, alloc, text);
+    match read_desc(alloc, text.as_bytes()) {
         Ok(desc) => desc,
-        Err(_) => {
-            assert!(rt; false, "refused");
-            return Ok(());
-        }
-    };
-    assert_eq!(rt; desc.source(), text.as_bytes());
-    let parts = desc.parts();
-    assert_eq!(rt; parts.name.bytes(), b"C".as_slice());
-    assert_eq!(rt; parts.tables.len(), 2);
-    assert_eq!(rt; parts.masks.len(), 3);
-    assert_eq!(rt; parts.groups.len(), 1);
-    let wide = [(0, 0), (0, 1), (1, 1), (0, 2)];
-    assert_eq!(rt; parts.plan.wide.len(), wide.len());
-    for (got, (table, column)) in parts.plan.wide.as_slice().iter().zip(wide) {
-        assert_eq!(rt; *got, WideCol { table, column });
+        Err(_) => panic!(rt; "refused"),
     }
-    let fact = desc.form(alloc, 0)?;
-    assert_eq!(rt; fact.cols.len(), 4);
-    assert_eq!(rt;
-        fact.no_null.as_slice(),
-        [false, false, true, false].as_slice()
-    );
-    assert!(rt; fact.key.is_empty());
-    let lookup = desc.form(alloc, 1)?;
-    assert_eq!(rt; lookup.no_null.as_slice(), [false, false].as_slice());
-    assert_eq!(rt; lookup.key.as_slice(), [0].as_slice());
-    Ok(())
 }
 
 #[test]
-fn the_example(rt: HostRuntime) -> Result<(), Fail> {
-    let alloc = rt.alloc();
-    let text = with_quotes(alloc, SALES_CUBE)?;
-    let Ok(desc) = read_desc(alloc, text.as_bytes()) else {
-        panic!(rt; "the example is refused");
-    };
+fn source(rt: HostRuntime) {
+    let text = with_quotes(&rt, rt.alloc(), BASE);
+    let desc = desc_of(&rt, rt.alloc(), BASE);
+    assert!(rt; desc.source() == text.as_bytes());
+    drop(desc);
+}
+
+#[test]
+fn numbers_for_names(rt: HostRuntime) {
+    let desc = desc_of(&rt, rt.alloc(), BASE);
     let parts = desc.parts();
-    assert_eq!(rt; parts.name.bytes(), b"SALES_CUBE".as_slice());
-    let counts = [
-        parts.tables.len(),
-        parts.measures.len(),
-        parts.rowkey.len(),
-        parts.derived.len(),
-        parts.groups.len(),
-        parts.masks.len(),
-    ];
-    assert_eq!(rt; counts, [2, 5, 4, 1, 2, 8]);
+    assert!(rt; parts.name.bytes() == b"C".as_slice());
+    assert!(rt; parts.tables.len() == 2 && parts.masks.len() == 3 && parts.groups.len() == 1);
+    drop(desc);
+}
+
+#[test]
+fn columns_that_rows_join(rt: HostRuntime) {
+    let desc = desc_of(&rt, rt.alloc(), BASE);
+    let wide = [(0, 0), (0, 1), (1, 1), (0, 2)];
+    let columns = desc.parts().plan.wide.as_slice();
+    assert!(rt; columns.len() == wide.len());
+    for (got, (table, column)) in columns.iter().zip(wide) {
+        assert!(rt; *got == WideCol { table, column });
+    }
+    drop(desc);
+}
+
+#[test]
+fn form_of_the_fact_table(rt: HostRuntime) {
+    let desc = desc_of(&rt, rt.alloc(), BASE);
+    assert!(rt; desc.parts().tables.len() == 2);
+    let fact = desc.form(rt.alloc(), 0).expect(&rt, "memory");
+    assert!(rt; fact.cols.len() == 4 && fact.key.is_empty());
+    assert!(rt; fact.no_null.as_slice() == [false, false, true, false].as_slice());
+    drop(fact);
+    drop(desc);
+}
+
+#[test]
+fn form_of_a_lookup(rt: HostRuntime) {
+    let desc = desc_of(&rt, rt.alloc(), BASE);
+    assert!(rt; desc.parts().tables.len() == 2);
+    let lookup = desc.form(rt.alloc(), 1).expect(&rt, "memory");
+    assert!(rt; lookup.no_null.as_slice() == [false, false].as_slice());
+    assert!(rt; lookup.key.as_slice() == [0].as_slice());
+    drop(lookup);
+    drop(desc);
+}
+
+#[test]
+fn the_example(rt: HostRuntime) {
+    let desc = desc_of(&rt, rt.alloc(), SALES_CUBE);
+    let parts = desc.parts();
+    assert!(rt; parts.name.bytes() == b"SALES_CUBE".as_slice());
+    assert!(rt; parts.tables.len() == 2 && parts.measures.len() == 5 && parts.rowkey.len() == 4);
+    assert!(rt; parts.derived.len() == 1 && parts.groups.len() == 2);
+    drop(desc);
+}
+
+#[test]
+fn masks_of_the_example(rt: HostRuntime) {
+    let desc = desc_of(&rt, rt.alloc(), SALES_CUBE);
+    let masks = desc.parts().masks.as_slice();
     // 1, 2, 3, 5, 7, 8, 10 and 15
     let sizes = [1, 1, 2, 2, 3, 1, 2, 4];
-    for (mask, size) in parts.masks.as_slice().iter().zip(sizes) {
-        assert_eq!(rt; mask.count(), size);
+    assert!(rt; masks.len() == sizes.len());
+    for (mask, size) in masks.iter().zip(sizes) {
+        assert!(rt; mask.count() == size);
     }
-    Ok(())
+    drop(desc);
 }
