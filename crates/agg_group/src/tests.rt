@@ -4,7 +4,6 @@ ghost use Rattle.agg_group.specs.Rules.{lists_of, AreDimensions};
 use super::*;
 use std::alloc::{AllocError, Global};
 use std::process::Abort;
-use std::test::Fail;
 
 fn are_below(dims: &[u32], n: u32) -> bool
     ensures { IsTrue result → All (λ d. d < n) dims.now }
@@ -35,58 +34,58 @@ fn include_below(groups: &[Group], n: u32) -> bool
 }
 
 // Dimensions below 64, each as the character that many after `0`.
-fn dims(alloc: Global, text: &str) -> Result<DimList, AllocError> {
+fn dims(rt: &impl Abort, alloc: Global, text: &str) -> DimList {
     let mut list = DimList::new(alloc);
     for byte in text.as_bytes() {
-        list.push(u32::from(byte.wrapping_sub(b'0')))?;
+        list.push(u32::from(byte.wrapping_sub(b'0')))
+            .expect(rt, "memory");
     }
-    Ok(list)
+    list
 }
 
 // No list for the empty text.
-fn lists(alloc: Global, text: &str) -> Result<Vec<DimList>, AllocError> {
+fn lists(rt: &impl Abort, alloc: Global, text: &str) -> Vec<DimList> {
     let mut lists = Vec::new(alloc);
     if !text.is_empty() {
-        lists.push(dims(alloc, text)?)?;
+        lists.push(dims(rt, alloc, text)).expect(rt, "memory");
     }
-    Ok(lists)
+    lists
 }
 
-// A group with at most one hierarchy and one joint.
-fn group(
-    rt: &impl Abort,
-    alloc: Global,
-    includes: &str,
-    mandatory: &str,
-    hierarchy: &str,
-    joint: &str,
-) -> Result<Group, GroupFault> {
-    let includes = dims(alloc, includes).map_err(|_| GroupFault::Memory)?;
-    let mandatory = dims(alloc, mandatory).map_err(|_| GroupFault::Memory)?;
-    let hierarchies = lists(alloc, hierarchy).map_err(|_| GroupFault::Memory)?;
-    let joints = lists(alloc, joint).map_err(|_| GroupFault::Memory)?;
+// A group with at most one hierarchy and one joint: what is included, what is mandatory, the hierarchy and the joint,
+// parted by |.
+fn group(rt: &impl Abort, alloc: Global, lists_of: &str) -> Result<Group, GroupFault> {
+    let mut fields = lists_of.split('|');
+    let includes = dims(rt, alloc, fields.next().unwrap_or(""));
+    let mandatory = dims(rt, alloc, fields.next().unwrap_or(""));
+    let hierarchies = lists(rt, alloc, fields.next().unwrap_or(""));
+    let joints = lists(rt, alloc, fields.next().unwrap_or(""));
     assert!(rt; are_below(includes.as_slice(), 64));
     assert!(rt; are_below(mandatory.as_slice(), 64));
     assert!(rt; are_small(hierarchies.as_slice()));
     assert!(rt; are_small(joints.as_slice()));
-    Group::new(
+    let group = Group::new(
         alloc,
         includes.as_slice(),
         mandatory.as_slice(),
         hierarchies.as_slice(),
         joints.as_slice(),
-    )
+    );
+    drop(includes);
+    drop(mandatory);
+    drop(hierarchies);
+    drop(joints);
+    group
 }
 
-fn fault(
-    rt: &impl Abort,
-    alloc: Global,
-    includes: &str,
-    mandatory: &str,
-    hierarchy: &str,
-    joint: &str,
-) -> Option<GroupFault> {
-    group(rt, alloc, includes, mandatory, hierarchy, joint).err()
+// Groups, parted by /.
+fn groups(rt: &impl Abort, alloc: Global, lists_of: &str) -> Vec<Group> {
+    let mut groups = Vec::new(alloc);
+    for lists_of in lists_of.split('/') {
+        let group = group(rt, alloc, lists_of).expect(rt, "a group");
+        groups.push(group).expect(rt, "memory");
+    }
+    groups
 }
 
 fn masks(rt: &impl Abort, alloc: Global, n: u32, groups: &[Group]) -> Result<Vec<Mask>, MaskFault> {
@@ -96,70 +95,94 @@ fn masks(rt: &impl Abort, alloc: Global, n: u32, groups: &[Group]) -> Result<Vec
     valid_masks(alloc, n, groups)
 }
 
-#[test]
-fn groups_refuse_their_first_fault(rt: HostRuntime) {
-    let alloc = rt.alloc();
-    let cases = [
-        ("012", "0", "12", "", None),
-        ("", "77", "11", "1", Some(GroupFault::EmptyIncludes)),
-        ("010", "", "", "", Some(GroupFault::Repeat)),
-        ("01", "9", "11", "", Some(GroupFault::Repeat)),
-        ("01", "9", "", "11", Some(GroupFault::Repeat)),
-        ("01", "9", "", "", Some(GroupFault::NotIncluded)),
-        ("01", "1", "19", "1", Some(GroupFault::NotIncluded)),
-        ("012", "1", "12", "1", Some(GroupFault::TwoRules)),
-        ("012", "", "01", "12", Some(GroupFault::TwoRules)),
-        ("012", "0", "", "1", Some(GroupFault::Short)),
-    ];
-    for (includes, mandatory, hierarchy, joint, want) in cases {
-        let got = fault(&rt, alloc, includes, mandatory, hierarchy, joint);
-        assert_eq!(rt; got, want, "{includes} {mandatory} {hierarchy} {joint}");
+// Groups, each with its fault.
+const FAULTS: &str = "\
+012|0|12||no fault
+|77|11|1|EmptyIncludes
+010||||Repeat
+01|9|11||Repeat
+01|9||11|Repeat
+01|9|||NotIncluded
+01|1|19|1|NotIncluded
+012|1|12|1|TwoRules
+012||01|12|TwoRules
+012|0||1|Short
+";
+
+fn fault(rt: &impl Abort, alloc: Global, lists_of: &str) -> Result<String, AllocError> {
+    match group(rt, alloc, lists_of) {
+        Ok(group) => {
+            drop(group);
+            String::from_str(alloc, "no fault")
+        }
+        Err(fault) => format!(in alloc; "{fault:?}"),
     }
 }
 
-#[test]
-fn masks_of_worked_cubes(rt: HostRuntime) -> Result<(), Fail> {
-    let alloc = rt.alloc();
-    let ruled = [group(&rt, alloc, "012345", "5", "012", "34")?];
-    let got = masks(&rt, alloc, 6, ruled.as_slice())?;
-    let want = [32, 33, 35, 39, 56, 57, 59, 63].map(Mask);
-    assert_eq!(rt; got.as_slice(), want.as_slice());
-
-    let equal = [
-        group(&rt, alloc, "01", "", "", "")?,
-        group(&rt, alloc, "10", "", "", "")?,
-    ];
-    let got = masks(&rt, alloc, 3, equal.as_slice())?;
-    assert_eq!(rt; got.as_slice(), [1, 2, 3, 7].map(Mask).as_slice());
-
-    let last = [group(&rt, alloc, "C", "", "", "")?];
-    let got = masks(&rt, alloc, 20, last.as_slice())?;
-    assert_eq!(rt; got.as_slice(), [524288, 1048575].map(Mask).as_slice());
-    Ok(())
+fn check_fault(rt: &impl Abort, alloc: Global, line: &str) {
+    let (lists_of, want) = line.rsplit_once('|').expect(rt, "a line has a fault");
+    let got = fault(rt, alloc, lists_of).expect(rt, "memory");
+    assert!(rt; got.as_str() == want, "{line}: {got}");
 }
 
 #[test]
-fn masks_up_to_the_limit(rt: HostRuntime) -> Result<(), Fail> {
+fn groups_refuse_their_first_fault(rt: HostRuntime) {
+    for line in FAULTS.lines() {
+        check_fault(&rt, rt.alloc(), line);
+    }
+}
+
+fn check_masks(rt: &impl Abort, alloc: Global, n: u32, lists_of: &str, want: &[u64]) {
+    let groups = groups(rt, alloc, lists_of);
+    let got = masks(rt, alloc, n, groups.as_slice()).expect(rt, "masks");
+    assert!(rt; got.len() == want.len());
+    for (mask, want) in got.as_slice().iter().zip(want) {
+        assert!(rt; mask.0 == *want, "{want}");
+    }
+    drop(groups);
+}
+
+#[test]
+fn masks_of_worked_cubes(rt: HostRuntime) {
     let alloc = rt.alloc();
-    let nine = [
-        group(&rt, alloc, "012345678", "", "", "")?,
-        group(&rt, alloc, "876543210", "", "", "")?,
-    ];
-    assert_eq!(rt; masks(&rt, alloc, 9, &nine[..1])?.len(), 511);
-    assert_eq!(rt; masks(&rt, alloc, 9, nine.as_slice())?.len(), 511);
+    let ruled = [32, 33, 35, 39, 56, 57, 59, 63];
+    check_masks(&rt, alloc, 6, "012345|5|012|34", &ruled);
+    check_masks(&rt, alloc, 3, "01|||/10|||", &[1, 2, 3, 7]);
+    check_masks(&rt, alloc, 20, "C|||", &[524288, 1048575]);
+}
+
+// Two groups of the same nine dimensions.
+const NINE: &str = "012345678|||/876543210|||";
+
+fn check_count(rt: &impl Abort, alloc: Global, n: u32, lists_of: &str, want: usize) {
+    let groups = groups(rt, alloc, lists_of);
+    let got = masks(rt, alloc, n, groups.as_slice()).expect(rt, "masks");
+    assert!(rt; got.len() == want, "{n} {lists_of}");
+    drop(groups);
+}
+
+#[test]
+fn masks_up_to_the_limit(rt: HostRuntime) {
+    let alloc = rt.alloc();
+    check_count(&rt, alloc, 9, "012345678|||", 511);
+    check_count(&rt, alloc, 9, NINE, 511);
     // The base of ten dimensions is the 512th.
-    assert_eq!(rt; masks(&rt, alloc, 10, nine.as_slice())?.len(), 512);
-    let ten = [group(&rt, alloc, "0123456789", "", "", "")?];
+    check_count(&rt, alloc, 10, NINE, 512);
+}
+
+#[test]
+fn masks_above_the_limit(rt: HostRuntime) {
+    let alloc = rt.alloc();
+    let ten = groups(&rt, alloc, "0123456789|||");
     let got = masks(&rt, alloc, 10, ten.as_slice()).err();
-    assert_eq!(rt; got, Some(MaskFault::TooManyCuboids));
-    Ok(())
+    assert!(rt; got == Some(MaskFault::TooManyCuboids));
+    drop(ten);
 }
 
 #[test]
 fn masks_are_sets(rt: HostRuntime) {
     let few = Mask::of(&[63, 0, 5]);
-    assert_eq!(rt; few, Mask(0x8000_0000_0000_0021));
-    assert_eq!(rt; few.count(), 3);
+    assert!(rt; few == Mask(0x8000_0000_0000_0021) && few.count() == 3);
     assert!(rt; few.has(63) && !few.has(1) && !few.has(64));
     assert!(rt; Mask(33).within(few) && !few.within(Mask(33)));
 }
