@@ -39,8 +39,9 @@ const SUM_OF_M: Agg = Agg {
     ty: ColType::Int,
 };
 
-// Into how many pieces the rows are cut, which threads may work on at once.
-const PIECES: u32 = 8;
+// Into how many pieces the rows are cut. One piece needs no merge of its cells with those of others, which costs more here than
+// work side by side saves.
+const PIECES: u32 = 1;
 
 // The line of a record, as `csv` writes it.
 fn line_of(alloc: Global, fields: &[&[u8]]) -> Result<Vec<u8>, AllocError>

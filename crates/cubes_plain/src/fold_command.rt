@@ -15,6 +15,7 @@ use crate::fold::fold_text;
 use crate::output::{MOST_BYTES, finish, refuse, refuse_path};
 use crate::rows::{column_text, kind_text, read_rows};
 use crate::status::{BAD_TABLE, DONE, MEMORY, READ_FAULT, TOO_LARGE, WRITE_FAULT};
+use cube_val::Row;
 use outside::{FileFault, Files, Sink};
 use std::alloc::Global;
 use std::thread::Threads;
@@ -29,14 +30,22 @@ enum Fault {
     BadTable(TableFault),
 }
 
-// The text of `fold` over the bytes of a file.
-fn text_of_bytes<R: Threads + Sync>(rt: &R, alloc: Global, bytes: &[u8]) -> Result<Vec<u8>, Fault>
-    ensures ok { IfOk result (λ text. (rows : List (List Val)) × IsFoldTable bytes.now rows × (text.items ≡ fold_text rows)) }
-    ensures bad { (f : TableFault) → result ≡ Err (Fault.BadTable f) → IsFoldFault bytes.now f }
+// The rows of the bytes of a file, which are let go.
+fn rows_of_bytes(alloc: Global, bytes: Vec<u8>) -> Result<Vec<Row>, TableRefusal>
+    ensures ok { IfOk result (λ rows. IsFoldTable bytes.items rows.items) }
+    ensures fault { (f : TableFault) → result ≡ Err (TableRefusal.Fault f) → IsFoldFault bytes.items f }
+{
+    read_rows(alloc, bytes.as_slice())
+}
+
+// The text of `fold` over the bytes of a file, which are not kept longer than they are read.
+fn text_of_bytes<R: Threads + Sync>(rt: &R, alloc: Global, bytes: Vec<u8>) -> Result<Vec<u8>, Fault>
+    ensures ok { IfOk result (λ text. (rows : List (List Val)) × IsFoldTable bytes.items rows × (text.items ≡ fold_text rows)) }
+    ensures bad { (f : TableFault) → result ≡ Err (Fault.BadTable f) → IsFoldFault bytes.items f }
     ensures read { result ≢ Err Fault.ReadFault }
     ensures large { result ≢ Err Fault.TooLarge }
 {
-    let rows = match read_rows(alloc, bytes) {
+    let rows = match rows_of_bytes(alloc, bytes) {
         Ok(rows) => rows,
         Err(TableRefusal::Fault(fault)) => return Err(Fault::BadTable(fault)),
         Err(TableRefusal::Memory) => return Err(Fault::Memory),
@@ -68,7 +77,7 @@ fn fold_output<R: Threads + Sync, F: Files>(
         Err(FileFault::TooLong) => return Err(Fault::TooLarge),
         Err(FileFault::Memory) => return Err(Fault::Memory),
     };
-    text_of_bytes(rt, alloc, bytes.as_slice())
+    text_of_bytes(rt, alloc, bytes)
 }
 
 // Writes the fault line of a table, and says the status.

@@ -4,7 +4,7 @@
 //! file, unless something stands at the stop path.
 //!
 //! The crate stands near the top: the words come from `command_line`; it reads through `outside::Files` and
-//! `table_reader`, numbers values by `dim_dictionary`, makes cuboids of rows by `layer_builder`, has descriptors
+//! `table_reader`, makes the dictionaries of columns and cuboids of rows by `layer_builder`, has descriptors
 //! from `cube_desc` and the lines of their cuboids from `cuboid_lines`, and writes through `outside::Sink`. The modules:
 //! `rows` (the bytes of a file to rows, by `table_reader`), `dictionaries` (the numbers of D1 and of D2), `fold` (the base
 //! cuboid of both, the cuboid of D1 regrouped from it, and its text), `fold_command`, `cuboids` and `step` (the commands
