@@ -1,5 +1,5 @@
 -- The cuboid of D1 in dictionary numbers is the aggregate by D1.
-use Rattle.std.proofs.Common.{◌≡◌, ◌∙◌, ◌<◌, ℕ, zero, suc, List, [], ◌∷◌, ◌++◌, Some, map, length, get_or, refl, ap, sym, subst, arith, rules}
+use Rattle.std.proofs.Common.{◌≡◌, ◌∙◌, ℕ, zero, suc, List, [], ◌∷◌, ◌++◌, Some, map, get_or, refl, ap, sym, subst, arith, rules}
 use Rattle.std.specs.declared.cmp.Ordering.{Ordering}
 use Rattle.std.specs.declared.cmp.Ordering.TheVariants.{Less, Equal, Greater}
 use Rattle.std.specs.List.{All, AllByRecursion, Contains, filter, flat_map, slice_get}
@@ -26,7 +26,7 @@ use Rattle.cube_val.specs.declared.val.ColType.TheVariants as ty
 use Rattle.cube_val.specs.declared.val.Val.{Val}
 use Rattle.cube_val.specs.declared.val.Val.TheVariants.{Null}
 use Rattle.dim_dictionary.proofs.DictLemmas.{count_to_found, keeps_order, keeps_values}
-use Rattle.layer_builder.specs.Base.{IsBase, base_mask, base_rows, measures_from, number_in}
+use Rattle.layer_builder.specs.Base.{IsBase, base_mask, measures_from, number_in}
 use Rattle.measure_laws.specs.Measures.{Summed, summed}
 use Rattle.plain_answer.specs.Aggregates.{cell}
 use Rattle.cubes_plain.specs.Cuboids.{IsSumRow, column_dict, d1_alone, dicts_of, row_line, sum_of_m}

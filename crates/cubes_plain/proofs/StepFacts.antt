@@ -1,5 +1,5 @@
 -- A call of `step` without memory.
-use Rattle.std.proofs.Common.{◌≡◌, ◌≢◌, ℕ, List, Option, Some, None, refl, inl, inr, arith}
+use Rattle.std.proofs.Common.{ℕ, List, Option, Some, None, refl, inl, inr, arith}
 use Rattle.outside.specs.Contents.{Paths, SameElsewhere}
 use Rattle.cubes_plain.specs.Steps.{FilesAt, IsStepRun, SinkAt}
 

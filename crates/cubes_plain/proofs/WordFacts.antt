@@ -1,7 +1,7 @@
 -- Words say one command over its paths.
 use Rattle.std.proofs.Common.{◌≡◌, ◌⊎◌, ℕ, List, [], ◌∷◌, Option, Some, None, sym, subst, ◌∙◌, inl, inr}
 use Rattle.command_line.specs.Words.{AreLawful, Say, bytes_of_words, run, demo, fold, cuboids, step}
-use Rattle.cubes_plain.specs.Words.{IsCuboids, IsFold, IsNoCommand, IsNoStep, IsOver, IsStep}
+use Rattle.cubes_plain.specs.Words.{IsCuboids, IsFold, IsNoCommand, IsOver, IsStep}
 use Rattle.std.specs.declared.alloc.Global.{Global}
 use Rattle.std.specs.declared.string.String.{String}
 

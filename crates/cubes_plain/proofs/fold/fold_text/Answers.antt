@@ -1,14 +1,12 @@
 use Rattle.std.proofs.Common.{◌≡◌, ◌++◌, ◌∷◌, ◌∙◌, [], ℕ, List, Some, All, ap, arith, map, refl, subst, sym}
 use Rattle.std.specs.List.{flat_map, slice_get}
 use Rattle.std.proofs.lemmas.Result.{IfOk-weaker}
-use Rattle.cell_gather.specs.Gathers.{gathered}
-use Rattle.cell_gather.specs.Keys.{part_of}
 use Rattle.cell_store.specs.declared.cell.Cell.{Cell}
 use Rattle.cube_val.specs.Values.{FitsType}
 use Rattle.cube_val.specs.declared.val.ColType.TheVariants as ty
 use Rattle.cube_val.specs.declared.val.Val.{Val}
 use Rattle.layer_builder.specs.Base.{IsBase}
-use Rattle.cubes_plain.specs.Cuboids.{IsSumRow, column_dict, d1_alone, dicts_of, row_line, sum_of_m}
+use Rattle.cubes_plain.specs.Cuboids.{IsSumRow, column_dict, dicts_of, row_line, sum_of_m}
 use Rattle.cubes_plain.specs.Folds.{header_line}
 use Rattle.cubes_plain.proofs.CellFacts.{cuboid_lines, cuboid_rows, dict_fits, groups_by_d1, numbered, regrouped_groups}
 use Rattle.cubes_plain.proofs.fold.fold_text.Goals as goal
