@@ -3,13 +3,14 @@
     python3 bench/step_texts.py
 
 It writes the program's `stdin` and `stdout`. The files of the five steps of a small BUILD are those of step_files.py; which of the
-others are tasks and products is said here, byte by byte. docs/FORMATS.md has the formats.
+others are tasks and products is said here, byte by byte. Each step of that BUILD, and of one of the sample cube, is run too: its
+product is that of step_files.py. docs/FORMATS.md has the formats.
 """
 
 import hashlib
 import os
 
-from step_files import HERE, Cube, body_of, frame, sized, steps_of, u8
+from step_files import HERE, Cube, body_of, build_of, frame, sized, steps_of, u8
 
 FOLDER = os.path.join(HERE, "..", "crates", "step_check")
 
@@ -28,6 +29,9 @@ DESCRIPTOR = b"""{"name":"c","tables":[{"name":"F","columns":[{"name":"D","type"
 FIRST, SECOND, END = b"2012-01-01", b"2012-01-02", b"2012-02-01"
 FACT = [[FIRST, 7, -5], [SECOND, 8, 20000]]
 LOOKUP = [[7, b"x"], [8, None]]
+
+# how many rows the BUILD of the sample cube has
+SAMPLE_ROWS = 20
 
 # for each kind: a place behind the descriptor, the byte that stands there instead, and whether the file is a task still
 OTHER_TASKS = [
@@ -157,11 +161,26 @@ def lines():
     yield [front + hashlib.sha256(front).digest()], ["BadTask"]
 
 
+def runs():
+    """Each line that runs a step as its word and its task, and what it is answered."""
+    for _, task, product in steps_of(Cube(DESCRIPTOR), (FIRST, END), [FACT, LOOKUP]):
+        yield "run", task, product.hex()
+        yield "stop", task, "Stopped"
+    for _, task, product in build_of(SAMPLE_ROWS):
+        yield "run", task, product.hex()
+    for word in ("run", "stop"):
+        yield word, bytes(10), "BadTask"
+        yield word, b"", "BadTask"
+
+
 def main():
     with open(os.path.join(FOLDER, "stdin"), "w") as questions, open(os.path.join(FOLDER, "stdout"), "w") as answers:
         for files, words in lines():
             print(*(file.hex() for file in files), file=questions)
             print(*words, file=answers)
+        for word, task, answer in runs():
+            print(word, task.hex(), file=questions)
+            print(answer, file=answers)
 
 
 if __name__ == "__main__":

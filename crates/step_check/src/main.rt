@@ -3,18 +3,28 @@
 //! A line is the bytes of a file and then those of any number of further files, each file as hexadecimal digits, with a space between
 //! two. Where the first is a task, it writes `task`, and for each further file `product` where it is one of that task, else `Damaged`;
 //! where the first is none it writes `BadTask` alone. Each task and each product is written again too: `changed` stands behind it where
-//! that gives other bytes. Its `stdin` has files that another program made (`bench/step_texts.py`), and files with one byte changed.
-//! Where a digit is none, or memory runs out, the program ends with status 1. It is no part of the product.
+//! that gives other bytes.
+//!
+//! A line with the word `run` and one file is answered by the product file that the step of that task makes, or by `BadTask`; a line
+//! with `stop` in its place by `Stopped`, or by `BadTask`, since its work sees a stop at its first look.
+//!
+//! Its `stdin` has files that another program made (`bench/step_texts.py`), and files with one byte changed. Where a digit is none, or
+//! memory runs out, the program ends with status 1. It is no part of the product.
 #![tactic(auto)]
+
+mod running;
 
 ghost use Rattle.std.specs.Prelude.{◌<◌, IfOk};
 ghost use Rattle.step_form.specs.Products.{FitsProduct};
 ghost use Rattle.step_form.specs.Tasks.{FitsTask};
 
+use crate::running::{StopAtOnce, answer_run};
+use outside::NoWatch;
 use sha2::{Digest, Sha256};
 use std::alloc::Global;
 use std::io;
 use std::io::{BufRead, BufReader, BufWriter, Write};
+use std::thread::Threads;
 use step_form::{
     Product, ProductRefusal, Task, TaskRefusal, product_file, read_product, read_task, task_text,
 };
@@ -104,6 +114,24 @@ fn answer<W: Write>(alloc: Global, line: &[u8], out: &mut W) -> io::Result<()> {
     }
 }
 
+// Answers a line: the product of a task, or what its files are.
+fn answer_line<R: Threads + Sync, W: Write>(
+    rt: &R,
+    alloc: Global,
+    line: &[u8],
+    out: &mut W,
+) -> io::Result<()> {
+    if let Some(digits) = line.strip_prefix(b"run ") {
+        let task = bytes_of(alloc, digits)?;
+        return answer_run(rt, alloc, task.as_slice(), &mut NoWatch, out);
+    }
+    if let Some(digits) = line.strip_prefix(b"stop ") {
+        let task = bytes_of(alloc, digits)?;
+        return answer_run(rt, alloc, task.as_slice(), &mut StopAtOnce::new(), out);
+    }
+    answer(alloc, line, out)
+}
+
 // The line without its line feed.
 fn text_of(line: &[u8]) -> &[u8] {
     match line {
@@ -120,7 +148,7 @@ fn main(rt: HostRuntime) -> io::Result<()> {
         if lines.read_until(b'\n', &mut line)? == 0 {
             break;
         }
-        answer(rt.alloc(), text_of(line.as_slice()), &mut out)?;
+        answer_line(&rt, rt.alloc(), text_of(line.as_slice()), &mut out)?;
     }
     out.flush()
 }

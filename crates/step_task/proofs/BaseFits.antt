@@ -1,0 +1,159 @@
+-- The base cuboid of flat rows is a valid table.
+use Rattle.std.proofs.Common.{◌≡◌, ◌≤◌, ◌<◌, ◌+◌, ◌-◌, ◌^◌, ◌∙◌, ℕ, Bool, true, cond, List, [], ◌∷◌, length, map, Some, refl, sym, ap, subst, arith}
+use Rattle.std.specs.Prelude.{not, slice_get, sum_by, take}
+use Rattle.std.specs.List.{AllByRecursion, filter_map, list_all}
+use Rattle.std.proofs.lemmas.List.{length-map}
+use Rattle.std.proofs.lemmas.List.Sums.{sum_by-cons}
+use Rattle.agg_group.specs.declared.mask.Mask.{Mask}
+use Rattle.agg_group.specs.Mask.{mask_at}
+use Rattle.byte_frame.specs.Spelling.{EachFits}
+use Rattle.cell_gather.specs.Gathers.{aggregated, cells_of, gathered}
+use Rattle.cell_gather.proofs.GatherFacts.{rows_gathered}
+use Rattle.cell_store.specs.Cells.{CellRows}
+use Rattle.cell_store.specs.declared.cell.Cell.TheVariants.{Count}
+use Rattle.cube_desc.specs.Cube.{Cube}
+use Rattle.cube_desc.specs.Sound.{IsSound}
+use Rattle.cube_desc.specs.declared.desc.MeasureDesc.{MeasureDesc}
+use Rattle.cube_fields.specs.Cells.{FitsCells, FitsId, FitsTable, are_ordered, count_in, measure_of, measures_of, sizes_in}
+use Rattle.cube_fields.specs.declared.forms.Extremes.{Extremes}
+use Rattle.cube_fields.specs.declared.forms.TableForm.{TableForm}
+use Rattle.cube_val.specs.declared.val.Val.{Val}
+use Rattle.layer_builder.specs.Base.{base_mask, base_rows, dict_at, form_of_kind, key_in, key_width, measures_from}
+use Rattle.layer_builder.proofs.BaseFacts.{forms_from as measured_forms}
+use Rattle.measure_laws.specs.declared.measure.MeasureForm.{MeasureForm}
+use Rattle.measure_laws.specs.declared.measure.MeasureForm.TheVariants as measure
+use Rattle.plain_answer.specs.Aggregates.{cell}
+use Rattle.plain_answer.specs.declared.ask.Agg.{Agg}
+use Rattle.step_bodies.specs.Bodies.{FitsHolding, holds, is_in}
+use Rattle.step_bodies.specs.Layouts.{base_mask as last_mask, cell_form, size_limit, table_form}
+use Rattle.step_bodies.specs.declared.layout.DictColumn.{DictColumn}
+use Rattle.step_fields.specs.Fits.{FitsRow}
+use Rattle.step_form.specs.Cubes.{dict_column, dict_places as form_places, distinct_places as form_distinct, extremes_of, flat_of as flat_columns, forms_from, is_count, kept_measures, kept_of, layout_of}
+use Rattle.step_form.specs.Tasks.{FitsFlat}
+use Rattle.step_form.proofs.ShortFacts.{each_length}
+use Rattle.cube_fields.specs.Dicts.{FitsDict}
+use Rattle.step_bodies.specs.Layouts.{dict_form}
+use Rattle.step_value.specs.Columns.{agg_of, dict_places, distinct_place, kept_aggs}
+use Rattle.step_value.specs.Values.{base_value}
+use Rattle.step_value.proofs.ColumnFacts.{places_counted}
+use Rattle.step_task.proofs.BaseMask.{last_is_base, sizes_in_base}
+use Rattle.step_task.proofs.DictFits.{places_are}
+use Rattle.step_task.proofs.ExtremeFacts.{all_pairs, are_extremes_at, mapped_at, no_count, others}
+use Rattle.step_task.proofs.GroupFits.{AreExtremes, Ordered, Row, both_parts, grouped_fits}
+use Rattle.step_task.proofs.RowFits.{at_back, at_front, cells_fit, dict_small, held_at, key_fits, pair_ordered, valid}
+
+abbrev Same : List ℕ → Cube → ℕ → List MeasureDesc → Type 0
+Same sizes c k ms = map measure_of (map (cell_form sizes) (forms_from k (map kept_of ms))) ≡ map (λ (agg : Agg). form_of_kind agg.kind) (map (agg_of c) ms)
+
+-- the forms of the cells are those of the measures
+forms_are : (sizes : List ℕ) (c : Cube) (d : ℕ) (ms : List MeasureDesc) → map measure_of (map (cell_form sizes) (forms_from d (map kept_of (others ms)))) ≡ map (λ (agg : Agg). form_of_kind agg.kind) (map (agg_of c) (others ms))
+forms_are sizes c d [] = refl
+forms_are sizes c d (m ∷ ms) = by m.form (λ k. forms_are sizes c k ms) where
+  by : (f : MeasureForm) → ((k : ℕ) → Same sizes c k (others ms)) → Same sizes c d (cond (not (is_count f)) (record m { form = f } ∷ others ms) (others ms))
+  by measure.Count rest = rest d
+  by measure.Sum rest = ap (λ l. measure.Sum ∷ l) (rest d)
+  by measure.Min rest = ap (λ l. measure.Min ∷ l) (rest d)
+  by measure.Max rest = ap (λ l. measure.Max ∷ l) (rest d)
+  by measure.Distinct rest = ap (λ l. measure.Distinct ∷ l) (rest (d + 1))
+
+all_true : {X : Type 0} (test : X → Bool) (xs : List X) → AllByRecursion (λ x. test x ≡ true) xs → list_all test xs ≡ true
+all_true test [] all = refl
+all_true test (x ∷ xs) all = let rest = all_true test xs all.1 in let one = all.0 in cc
+
+module _ (c : Cube) (dicts : List (List Val)) (small : (i : ℕ) → length (dict_at dicts i) < 2 ^ 32) (few : length c.rowkey ≤ 64) where
+  abbrev width : ℕ
+  width = length c.rowkey
+
+  abbrev sizes : List ℕ
+  sizes = map length dicts
+
+  abbrev columns : List DictColumn
+  columns = map (dict_column (flat_columns c)) (form_places c)
+
+  abbrev kept : List MeasureDesc
+  kept = others c.measures
+
+  abbrev form : TableForm
+  form = record { sizes = take width sizes; cells = map (cell_form sizes) (forms_from width (map kept_of kept)); extremes = extremes_of (map kept_of kept); most = 200_000 }
+
+  abbrev one : List Val → Row
+  one row = (key_in dicts width row, Count 1 ∷ cells_of (measures_from dicts width (map (agg_of c) kept)) (row ∷ []))
+
+  module _ (len : length dicts ≡ length columns) where
+    place_held : (row : List Val) → holds columns dicts row ≡ true → (i : ℕ) → i < width → is_in (dict_at dicts i) (cell row i) ≡ true
+    place_held row held i lt =
+        let at : slice_get (form_places c) i ≡ Some i = at_front 0 width i (form_distinct c) lt ∙ (let same : 0 + i ≡ i = omega arith in ap Some same) in
+        held_at columns dicts row i (dict_column (flat_columns c) i) len held (mapped_at (dict_column (flat_columns c)) (form_places c) i i at)
+
+    measure_held : (row : List Val) → holds columns dicts row ≡ true → (i place : ℕ) → slice_get (filter_map (distinct_place c) c.measures) i ≡ Some place → is_in (dict_at dicts (width + i)) (cell row place) ≡ true
+    unfolding form_distinct
+    measure_held row held i place e =
+        held_at columns dicts row (width + i) (dict_column (flat_columns c) place) len held
+        (mapped_at (dict_column (flat_columns c)) (form_places c) (width + i) place (at_back 0 width i (form_distinct c) ∙ e))
+
+    row_key : (row : List Val) → holds columns dicts row ≡ true → EachFits FitsId (sizes_in form.sizes (base_mask width)) (one row).0
+    row_key row held =
+        subst (λ (ks : List ℕ). EachFits FitsId ks (key_in dicts width row)) (sym (sizes_in_base width (take width sizes) few))
+        (key_fits dicts width row small (place_held row held))
+
+    row_cells : (row : List Val) → FitsRow (flat_columns c) row → holds columns dicts row ≡ true → FitsCells form.most form.cells (one row).1
+    row_cells row fits held = cells_fit dicts row small (λ place. valid (flat_columns c) row place fits) c width 200_000 c.measures (measure_held row held) (omega arith)
+
+    row_order : (row : List Val) → FitsRow (flat_columns c) row → Ordered form.extremes (one row).1
+    row_order row fits =
+        all_true (are_ordered (one row).1) form.extremes
+        (all_pairs (λ (e : Extremes). are_ordered (one row).1 e ≡ true) kept (λ i j pair. pair_ordered dicts row small (λ place. valid (flat_columns c) row place fits) c width kept (Count 1) i j pair))
+
+    all_keys : (rows : List (List Val)) → list_all (holds columns dicts) rows ≡ true → AllByRecursion (λ (row : Row). EachFits FitsId (sizes_in form.sizes (base_mask width)) row.0) (map one rows)
+    all_keys [] held = tt
+    all_keys (row ∷ rows) held = let h = both_parts (holds columns dicts row) (list_all (holds columns dicts) rows) held in (row_key row h.0, all_keys rows h.1)
+
+    all_cells : (rows : List (List Val)) → AllByRecursion (FitsRow (flat_columns c)) rows → list_all (holds columns dicts) rows ≡ true → AllByRecursion (λ (row : Row). FitsCells form.most form.cells row.1) (map one rows)
+    all_cells [] fits held = tt
+    all_cells (row ∷ rows) fits held = let h = both_parts (holds columns dicts row) (list_all (holds columns dicts) rows) held in (row_cells row fits.0 h.0, all_cells rows fits.1 h.1)
+
+  all_orders : length dicts ≡ length columns → (rows : List (List Val)) → AllByRecursion (FitsRow (flat_columns c)) rows → AllByRecursion (λ (row : Row). Ordered form.extremes row.1) (map one rows)
+  all_orders len [] fits = tt
+  all_orders len (row ∷ rows) fits = (row_order len row fits.0, all_orders len rows fits.1)
+
+  all_count : (rows : List (List Val)) → sum_by (λ (row : Row). count_in row.1) (map one rows) ≡ length rows
+  all_count [] = refl
+  all_count (row ∷ rows) = omega (arith, all_count rows, sum_by-cons (λ (r : Row). count_in r.1) (one row) (map one rows))
+
+  extremes_fit : AllByRecursion (AreExtremes form.cells) form.extremes
+  extremes_fit = are_extremes_at sizes width kept (no_count c.measures)
+
+  pub rows_fit : length dicts ≡ length columns → (flat : List (List Val)) → length flat ≤ 200_000 → AllByRecursion (FitsRow (flat_columns c)) flat → list_all (holds columns dicts) flat ≡ true
+      → FitsTable form (base_mask width) (record { mask = base_mask width; forms = measures_of form; rows = gathered (measures_of form) (λ key. key) (map one flat) })
+  rows_fit len flat most fits held =
+      grouped_fits form (base_mask width) (λ (row : Row). row.0) (map one flat) (all_keys len flat held) (all_cells len flat fits held) (all_orders len flat fits) (omega (arith, all_count flat, most)) extremes_fit
+
+  table_is : (flat : List (List Val)) → key_width (kept_aggs c) dicts ≡ width
+      → record { mask = base_mask width; forms = measures_of form; rows = gathered (measures_of form) (λ key. key) (map one flat) } ≡ base_value c flat dicts
+  unfolding kept_aggs
+  table_is flat e =
+      let aggs = kept_aggs c in
+      let forms : measures_of form ≡ map (λ (agg : Agg). form_of_kind agg.kind) aggs = ap (λ l. measure.Count ∷ l) (forms_are sizes c width c.measures) in
+      let ms = measures_from dicts width aggs in
+      let rows : gathered (measures_of form) (λ key. key) (map one flat) ≡ base_rows aggs dicts flat =
+      ap (λ fs. gathered fs (λ key. key) (map one flat)) (forms ∙ sym (measured_forms dicts width aggs))
+      ∙ rows_gathered ms (key_in dicts width) flat
+      ∙ ap (λ k. aggregated (measures_from dicts k aggs) (key_in dicts k) flat) (sym e) in
+      let mask : base_mask width ≡ base_mask (key_width aggs dicts) = ap base_mask (sym e) in
+      λ i. record { mask = mask i; forms = forms i; rows = rows i }
+
+-- the base cuboid of a valid task
+pub base_fits : (c : Cube) → IsSound c → (flat dicts : List (List Val)) → FitsFlat (layout_of c) flat → FitsHolding (layout_of c) size_limit flat dicts
+    → FitsTable (table_form (layout_of c) (map length dicts) 1) (last_mask (layout_of c)) (base_value c flat dicts)
+unfolding layout_of kept_measures
+base_fits c s flat dicts h g =
+    let columns : List DictColumn = map (dict_column (flat_columns c)) (form_places c) in
+    let len : length dicts ≡ length columns = each_length FitsDict (map (dict_form size_limit) columns) dicts g.0 ∙ length-map columns (dict_form size_limit) in
+    let small : (i : ℕ) → length (dict_at dicts i) < 2 ^ 32 = λ i. omega (arith, dict_small size_limit columns dicts i g.0) in
+    let few : length c.rowkey ≤ 64 = omega (arith, s.few_dimensions) in
+    let counted : length dicts ≡ length (dict_places c) = len ∙ length-map (form_places c) (dict_column (flat_columns c)) ∙ ap length (sym (places_are c)) in
+    let wide : key_width (kept_aggs c) dicts ≡ length c.rowkey = omega (arith, counted, places_counted c) in
+    let last : last_mask (layout_of c) ≡ base_mask (length c.rowkey) = ap (λ (ms : List Mask). mask_at ms (length ms - 1)) s.masks ∙ last_is_base (length c.rowkey) c.groups in
+    let own = rows_fit c dicts small few len flat h.0 h.1 g.1 in
+    subst (λ (m : Mask). FitsTable (table_form (layout_of c) (map length dicts) 1) m (base_value c flat dicts)) (sym last)
+    (subst (λ (t : CellRows). FitsTable (table_form (layout_of c) (map length dicts) 1) (base_mask (length c.rowkey)) t) (table_is c dicts small few flat wide) own)

@@ -1,0 +1,14 @@
+pub mod BaseFits
+pub mod BaseMask
+pub mod CellFits
+pub mod CubeFacts
+pub mod DictFits
+pub mod ExtremeFacts
+pub mod FlatFits
+pub mod GroupFits
+pub mod LayerFits
+pub mod MadeFacts
+pub mod ProductFacts
+pub mod RowFits
+pub mod TaskFacts
+pub mod TextFacts

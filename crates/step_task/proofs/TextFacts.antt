@@ -1,0 +1,14 @@
+-- Bytes are one task at most.
+use Rattle.std.proofs.Common.{◌≡◌, ◌<◌, ◌^◌, ℕ, List, length, ap}
+use Rattle.step_form.specs.Files.{IsTaskFile}
+use Rattle.step_form.specs.declared.task.Task.{Task}
+use Rattle.step_form.proofs.ExactFiles.{task_again}
+use Rattle.step_task.specs.Laws.{TextsAreOfTasks}
+use Rattle.step_task.specs.Steps.{made_of, step_text, text_of}
+
+pub made_text : (bytes : List ℕ) (t : Task) → length bytes < 2 ^ 64 → IsTaskFile bytes t → made_of bytes ≡ step_text t
+unfolding made_of
+made_text bytes t small h = ap text_of (task_again bytes t small h)
+
+pub texts : TextsAreOfTasks
+texts bytes t small h = made_text bytes t small h
