@@ -9,13 +9,13 @@ ghost use Rattle.coordinator.specs.Ties.{IsEndBy, IsUndamaged, StandsAmong};
 ghost use Rattle.cubes_plain.specs.Outputs.{bad_words_line};
 ghost use Rattle.cubes_plain.specs.Steps.{IsStepRun, files_at, sink_at};
 ghost use Rattle.cubes_plain.specs.Words.{IsNoStep, IsStep};
-ghost use Rattle.fixed_cube.specs.Tasks.{IsTask, product_of};
 ghost use Rattle.outside.specs.Counts.{Rose};
 ghost use Rattle.outside.specs.Hands.{Fail};
 ghost use Rattle.outside.specs.Rises.{AllTell, AllTellThat, Risen, TellSame, entries_of};
 ghost use Rattle.run_inputs.specs.Laws.{TellsOutcomeAt};
 ghost use Rattle.run_inputs.specs.declared.fault.InputFault.{InputFault};
 ghost use Rattle.run_inputs.specs.declared.inputs.FixedInputs.{FixedInputs};
+ghost use Rattle.step_task.specs.Steps.{IsTask, made_of};
 ghost use Rattle.cubes_top.specs.Outcomes.{EndsAs, IsRun};
 ghost use Rattle.cubes_top.specs.Outside.{HasNoFault, seen};
 ghost use Rattle.cubes_top.specs.Plain.{HasLine, IsPlain};
@@ -34,6 +34,7 @@ use run_refusal::refuse_inputs;
 use std::alloc::Global;
 use std::sync::Wait;
 use std::thread::Threads;
+use step_task::CubeWork;
 
 /// What a run leaves: its status, one of `cubes_plain::status` or `BAD_SCRIPT`, its history, and the hands.
 #[derive(Drop)]
@@ -189,8 +190,8 @@ pub fn run<
     ensures plain { IsNoRun words.now → IsNoStep words.now → IsPlain words.now (seen (F.contents files.old) (F.faults files.old) (F.faults files.new) (S.faults sink.old) (S.faults sink.new) (S.written sink.old) (S.written sink.new)) result.status }
     ensures no_event { IsNoRun words.now → result.history.items ≡ [] }
 
-    // The word `step`: how it ends over a task of the fixed cube, and the paths that the words say.
-    ensures step { (task product stop : List ℕ) → IsStep words.now task product stop → IsStepRun IsTask product_of
+    // The word `step`: how it ends over a task of a cube, and the paths that the words say.
+    ensures step { (task product stop : List ℕ) → IsStep words.now task product stop → IsStepRun IsTask made_of
         (files_at (F.contents files.old) (F.faults files.old) (F.write_faults files.old) (F.seen files.old))
         (files_at (F.contents files.new) (F.faults files.new) (F.write_faults files.new) (F.seen files.new))
         (sink_at (S.written sink.old) (S.faults sink.old)) (sink_at (S.written sink.new) (S.faults sink.new)) task product stop result.status }
@@ -241,7 +242,7 @@ pub fn run<
     match script_path(alloc, words) {
         Ok(Some(path)) => run_at(rt, alloc, path.as_str(), files, hands, stopper, sink),
         Ok(None) => {
-            let status = run_plain::<SmallWork, R, F, S>(rt, alloc, words, files, sink);
+            let status = run_plain::<CubeWork, R, F, S>(rt, alloc, words, files, sink);
             without_run(alloc, status, hands)
         }
         Err(_) => without_run(alloc, MEMORY, hands),

@@ -17,7 +17,7 @@ use Rattle.cubes_top.proofs.PlainFacts.{plain-memory}
 use Rattle.cubes_top.proofs.Refusals.{complete-told, ends_memory, none-risen}
 use Rattle.cubes_plain.specs.Steps.{IsStepRun, files_at, sink_at}
 use Rattle.cubes_plain.proofs.StepFacts.{step_memory}
-use Rattle.fixed_cube.specs.Tasks.{IsTask, product_of}
+use Rattle.step_task.specs.Steps.{IsTask, made_of}
 use Rattle.cubes_top.proofs.RunWords.{one_run, step-no_run}
 use Rattle.cubes_top.proofs.top.run.Goals as goal
 
@@ -122,7 +122,7 @@ returns-in-Ok-None-clause-plain g c = λ no_run no_step.
 
 pub returns-in-Ok-None-clause-step : goal.returns-in-Ok-None-clause-step
 returns-in-Ok-None-clause-step g c = λ task product stop s.
-    subst (λ (status : ℕ). IsStepRun IsTask product_of
+    subst (λ (status : ℕ). IsStepRun IsTask made_of
     (files_at (g.F.Files.contents c.args.files.now) (g.F.Files.faults c.args.files.now) (g.F.Files.write_faults c.args.files.now) (g.F.Files.seen c.args.files.now))
     (files_at (g.F.Files.contents c.run_plain-status.new.files) (g.F.Files.faults c.run_plain-status.new.files) (g.F.Files.write_faults c.run_plain-status.new.files) (g.F.Files.seen c.run_plain-status.new.files))
     (sink_at (g.S.Sink.written c.args.sink.now) (g.S.Sink.faults c.args.sink.now)) (sink_at (g.S.Sink.written c.run_plain-status.new.sink) (g.S.Sink.faults c.run_plain-status.new.sink)) task product stop status)
@@ -193,7 +193,7 @@ pub returns-in-Err-clause-step : goal.returns-in-Err-clause-step
 returns-in-Err-clause-step g c = λ task product stop s.
     let files = files_at (g.F.Files.contents c.args.files.now) (g.F.Files.faults c.args.files.now) (g.F.Files.write_faults c.args.files.now) (g.F.Files.seen c.args.files.now) in
     let sink = sink_at (g.S.Sink.written c.args.sink.now) (g.S.Sink.faults c.args.sink.now) in
-    subst (λ (status : ℕ). IsStepRun IsTask product_of files files sink sink task product stop status) (sym c.without_run-in-Err.ensures.status) (step_memory IsTask product_of files sink task product stop)
+    subst (λ (status : ℕ). IsStepRun IsTask made_of files files sink sink task product stop status) (sym c.without_run-in-Err.ensures.status) (step_memory IsTask made_of files sink task product stop)
 
 pub returns-in-Err-clause-runs : goal.returns-in-Err-clause-runs
 returns-in-Err-clause-runs g c = none-risen g.H.Hand.runs run_ends refl c.args.hands.items c.without_run-in-Err.result.hands.items c.without_run-in-Err.result.history.items c.without_run-in-Err.ensures.hands c.without_run-in-Err.ensures.none
