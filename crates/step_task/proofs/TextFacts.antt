@@ -1,5 +1,5 @@
 -- Bytes are one task at most.
-use Rattle.std.proofs.Common.{◌≡◌, ◌<◌, ◌^◌, ℕ, List, length, ap}
+use Rattle.std.proofs.Common.{◌≡◌, ◌<◌, ◌^◌, ◌∙◌, ℕ, List, Some, length, sym, ap}
 use Rattle.step_form.specs.Files.{IsTaskFile}
 use Rattle.step_form.specs.declared.task.Task.{Task}
 use Rattle.step_form.proofs.ExactFiles.{task_again}
@@ -10,5 +10,8 @@ pub made_text : (bytes : List ℕ) (t : Task) → length bytes < 2 ^ 64 → IsTa
 unfolding made_of
 made_text bytes t small h = ap text_of (task_again bytes t small h)
 
+some_is : {X : Type 0} (x y : X) → Some x ≡ Some y → x ≡ y
+some_is x y e = cc
+
 pub texts : TextsAreOfTasks
-texts bytes t small h = made_text bytes t small h
+texts = record { one_task = λ bytes t u small h k. some_is t u (sym (task_again bytes t small h) ∙ task_again bytes u small k); made = made_text }

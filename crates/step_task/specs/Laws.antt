@@ -10,6 +10,7 @@ use Rattle.step_task.specs.Steps.{made_of, step_text, step_value}
 abbrev pub StepsMakeProducts : Type 0
 StepsMakeProducts = (t : Task) → FitsTask t → FitsProduct t (step_value t)
 
--- the file of what a step makes, by the bytes of its task
-abbrev pub TextsAreOfTasks : Type 0
-TextsAreOfTasks = (bytes : List ℕ) (t : Task) → length bytes < 2 ^ 64 → IsTaskFile bytes t → made_of bytes ≡ step_text t
+-- bytes are one task at most, and what is made of them is the file of what its step makes
+pub record TextsAreOfTasks : Type 0 where
+  pub one_task : (bytes : List ℕ) (t u : Task) → length bytes < 2 ^ 64 → IsTaskFile bytes t → IsTaskFile bytes u → t ≡ u
+  pub made : (bytes : List ℕ) (t : Task) → length bytes < 2 ^ 64 → IsTaskFile bytes t → made_of bytes ≡ step_text t

@@ -7,7 +7,7 @@ pub fn steps_make_products()
     ensures { StepsMakeProducts }
 {}
 
-/// Bytes are one task at most, and what its step makes is a function of them.
+/// Bytes are one task at most, and what is made of them is the file of what its step makes.
 pub fn texts_are_of_tasks()
     ensures { TextsAreOfTasks }
 {}
