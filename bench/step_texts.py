@@ -165,12 +165,12 @@ def runs():
     """Each line that runs a step as its word and its task, and what it is answered."""
     for _, task, product in steps_of(Cube(DESCRIPTOR), (FIRST, END), [FACT, LOOKUP]):
         yield "run", task, product.hex()
-        yield "stop", task, "Stopped"
+        yield "stop", task, "fault: Stopped"
     for _, task, product in build_of(SAMPLE_ROWS):
         yield "run", task, product.hex()
     for word in ("run", "stop"):
-        yield word, bytes(10), "BadTask"
-        yield word, b"", "BadTask"
+        yield word, bytes(10), "fault: BadTask"
+        yield word, b"", "fault: BadTask"
 
 
 def main():

@@ -5,8 +5,8 @@
 //! where the first is none it writes `BadTask` alone. Each task and each product is written again too: `changed` stands behind it where
 //! that gives other bytes.
 //!
-//! A line with the word `run` and one file is answered by the product file that the step of that task makes, or by `BadTask`; a line
-//! with `stop` in its place by `Stopped`, or by `BadTask`, since its work sees a stop at its first look.
+//! A line with the word `run` and one file is that of a task for `cubes step` over files in memory. It is answered by the product file
+//! that is left, or by the fault line. With `stop` in its place something stands at the path of the stop file too.
 //!
 //! Its `stdin` has files that another program made (`bench/step_texts.py`), and files with one byte changed. Where a digit is none, or
 //! memory runs out, the program ends with status 1. It is no part of the product.
@@ -18,8 +18,7 @@ ghost use Rattle.std.specs.Prelude.{◌<◌, IfOk};
 ghost use Rattle.step_form.specs.Products.{FitsProduct};
 ghost use Rattle.step_form.specs.Tasks.{FitsTask};
 
-use crate::running::{StopAtOnce, answer_run};
-use outside::NoWatch;
+use crate::running::answer_run;
 use sha2::{Digest, Sha256};
 use std::alloc::Global;
 use std::io;
@@ -123,11 +122,11 @@ fn answer_line<R: Threads + Sync, W: Write>(
 ) -> io::Result<()> {
     if let Some(digits) = line.strip_prefix(b"run ") {
         let task = bytes_of(alloc, digits)?;
-        return answer_run(rt, alloc, task.as_slice(), &mut NoWatch, out);
+        return answer_run(rt, alloc, task, false, out);
     }
     if let Some(digits) = line.strip_prefix(b"stop ") {
         let task = bytes_of(alloc, digits)?;
-        return answer_run(rt, alloc, task.as_slice(), &mut StopAtOnce::new(), out);
+        return answer_run(rt, alloc, task, true, out);
     }
     answer(alloc, line, out)
 }
