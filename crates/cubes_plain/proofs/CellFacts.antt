@@ -1,20 +1,19 @@
--- The cuboid of D1 in dictionary numbers is the aggregate by D1.
+-- The cuboid of D1 in dictionary numbers has the groups of the text.
 use Rattle.std.proofs.Common.{◌≡◌, ◌∙◌, ℕ, zero, suc, List, [], ◌∷◌, ◌++◌, Some, map, get_or, refl, ap, sym, subst, arith, rules}
 use Rattle.std.specs.declared.cmp.Ordering.{Ordering}
 use Rattle.std.specs.declared.cmp.Ordering.TheVariants.{Less, Equal, Greater}
 use Rattle.std.specs.List.{All, AllByRecursion, Contains, filter, flat_map, slice_get}
 use Rattle.std.specs.List.Sorted.{IsStrictlySortedBy}
 use Rattle.std.specs.Ordering.{eq_by_cmp, nat_cmp, ordering_then}
-use Rattle.std.proofs.lemmas.List.{append-nil, get_or_default, map-id}
+use Rattle.std.proofs.lemmas.List.{get_or_default, map-id}
 use Rattle.std.proofs.lemmas.List.Elements.{All-from_recursion, recursion_from_All}
 use Rattle.std.proofs.lemmas.Nat.Bits.{bit_at_ones_above}
 use Rattle.std.proofs.lemmas.Option.{get_or_from_slice_get, slice_get-get_or, slice_get_within, unwrap_or-slice_get}
 use Rattle.agg_group.specs.Mask.{IsWithin}
 use Rattle.aggregation.specs.Groups.{aggregate, distinct, values_at}
 use Rattle.aggregation.proofs.GroupFacts.{rises-distinct}
-use Rattle.cell_gather.specs.Gathers.{RowMeasure, aggregated, cells_of, forms_of, gathered}
-use Rattle.cell_gather.specs.Keys.{dims_of, part_of}
-use Rattle.cell_gather.proofs.GatherFacts.{law}
+use Rattle.cell_gather.specs.Gathers.{RowMeasure, aggregated, cells_of}
+use Rattle.cell_gather.specs.Keys.{dims_of}
 use Rattle.cell_store.specs.Cells.{CellRows, key_cmp}
 use Rattle.cell_store.specs.declared.cell.Cell.{Cell}
 use Rattle.cell_store.specs.declared.cell.Cell.TheVariants.{Sum}
@@ -26,7 +25,8 @@ use Rattle.cube_val.specs.declared.val.ColType.TheVariants as ty
 use Rattle.cube_val.specs.declared.val.Val.{Val}
 use Rattle.cube_val.specs.declared.val.Val.TheVariants.{Null}
 use Rattle.dim_dictionary.proofs.DictLemmas.{count_to_found, keeps_order, keeps_values}
-use Rattle.layer_builder.specs.Base.{IsBase, base_mask, measures_from, number_in}
+use Rattle.layer_builder.specs.Base.{base_mask, measures_from, number_in}
+use Rattle.layer_builder.specs.Cuboids.{IsCuboid, key_by}
 use Rattle.measure_laws.specs.Measures.{Summed, summed}
 use Rattle.plain_answer.specs.Aggregates.{cell}
 use Rattle.cubes_plain.specs.Cuboids.{IsSumRow, column_dict, d1_alone, dicts_of, row_line, sum_of_m}
@@ -109,21 +109,14 @@ aggregated_groups rows =
     (d1_is_there rows)
     ∙ numbered_cells rows (distinct val_cmp (map d1_of rows))
 
--- the key by D1 is the first number of the whole key
-first_number : (a b : ℕ) → part_of (base_mask 2) d1_alone (a ∷ b ∷ []) ≡ a ∷ []
+-- the key by D1 is its number
+key_by_d1 : (rows : List (List Val)) (row : List Val) → key_by (dicts_of rows) d1_alone row ≡ number_in (dict_of rows) (cell row 0) ∷ []
 unfolding dims_of
-first_number a b = refl
+key_by_d1 rows row = refl
 
--- what is regrouped from the base by D1 has the groups of the text
-pub regrouped_groups : (rows : List (List Val)) (table : CellRows) → IsBase (sum_of_m ∷ []) (dicts_of rows) rows table
-    → gathered table.forms (part_of table.mask d1_alone) table.rows ≡ map (numbered (dict_of rows)) (groups_by_d1 rows)
-regrouped_groups rows table is =
-    let key : List Val → List ℕ = λ row. number_in (column_dict rows 0) (cell row 0) ∷ number_in (column_dict rows 1) (cell row 1) ∷ [] in
-    (λ i. gathered (is.forms i) (part_of (is.mask i) d1_alone) (is.rows i))
-    ∙ ap (gathered (forms_of (measures rows)) (part_of (base_mask 2) d1_alone)) (sym (append-nil (aggregated (measures rows) key rows)))
-    ∙ law (measures rows) key (part_of (base_mask 2) d1_alone) (rows ∷ [])
-    ∙ (λ i. aggregated (measures rows) (λ row. first_number (number_in (column_dict rows 0) (cell row 0)) (number_in (column_dict rows 1) (cell row 1)) i) (append-nil rows i))
-    ∙ aggregated_groups rows
+-- the cuboid by D1 has the groups of the text
+pub cuboid_groups : (rows : List (List Val)) (table : CellRows) → IsCuboid (sum_of_m ∷ []) (dicts_of rows) rows d1_alone table → table.rows ≡ map (numbered (dict_of rows)) (groups_by_d1 rows)
+cuboid_groups rows table is = is.rows ∙ (λ i. aggregated (measures rows) (λ row. key_by_d1 rows row i) rows) ∙ aggregated_groups rows
 
 -- ---- the rows of the cuboid
 

@@ -2,9 +2,6 @@
 
 ghost use Rattle.std.specs.Prelude.{◌≡◌, ◌<◌, ◌^◌, ◌∷◌, [], ◌++◌, IfOk, length, map, All, slice_index_or};
 ghost use Rattle.std.specs.List.{flat_map};
-ghost use Rattle.agg_group.specs.Mask.{IsWithin};
-ghost use Rattle.cell_gather.specs.Gathers.{gathered};
-ghost use Rattle.cell_gather.specs.Keys.{part_of};
 ghost use Rattle.cell_store.specs.Cells.{form_of};
 ghost use Rattle.cell_store.specs.declared.cell.Cell.TheVariants as cell;
 ghost use Rattle.cube_val.specs.Values.{FitsType};
@@ -12,7 +9,7 @@ ghost use Rattle.cube_val.specs.declared.val.ColType.TheVariants as ty;
 ghost use Rattle.cubes_plain.specs.Cuboids.{IsSumRow, d1_alone, dicts_of, row_line, sum_in, sum_of_m};
 ghost use Rattle.cubes_plain.specs.Folds.{csv_line, fold_text, group_line, header_line};
 ghost use Rattle.cubes_plain.specs.Rows.{IsFactRow};
-ghost use Rattle.layer_builder.specs.Base.{IsBase};
+ghost use Rattle.layer_builder.specs.Cuboids.{IsCuboid};
 ghost use Rattle.measure_laws.specs.declared.measure.MeasureForm.TheVariants as form;
 
 use crate::dictionaries::dictionaries;
@@ -21,7 +18,7 @@ use cell_store::{Cell, CellTable, Steps};
 use csv::WriterBuilder;
 use cube_val::{ColType, Row, Val, val_text};
 use dim_dictionary::{Dict, DictSet};
-use layer_builder::{base, regroup};
+use layer_builder::cuboid;
 use measure_laws::Sum;
 use plain_answer::{Agg, AggKind, FlatRows};
 use std::alloc::{AllocError, Global};
@@ -39,9 +36,8 @@ const SUM_OF_M: Agg = Agg {
     ty: ColType::Int,
 };
 
-// Into how many pieces the rows are cut. One piece needs no merge of its cells with those of others, which costs more here than
-// work side by side saves.
-const PIECES: u32 = 1;
+// Into how many pieces the rows are cut, which are worked on side by side.
+const PIECES: u32 = 4;
 
 // The line of a record, as `csv` writes it.
 fn line_of(alloc: Global, fields: &[&[u8]]) -> Result<Vec<u8>, AllocError>
@@ -93,17 +89,19 @@ fn row_line(alloc: Global, dict: &Dict, key: &[u32], cells: &[Cell]) -> Result<V
     group_line(alloc, value, sum)
 }
 
-// The header, and the lines of the cuboid of D1.
+// The header, and the lines of the cuboid of D1. Nobody counts the steps.
 fn text_of_cuboid<L: Ledger>(
     alloc: Global,
     dict: &Dict,
     cuboid: &CellTable,
-    steps: &mut Steps<L>,
+    blank: Blank,
 ) -> Result<Vec<u8>, AllocError>
+    requires blank { (blank.name ≡ L.name) × (blank.parts ≡ L.parts) × (0 < L.parts) }
     requires rows { All (IsSumRow dict.now) cuboid.now.rows }
     requires texts { All (FitsType ty.Text) dict.now }
     ensures { IfOk result (λ text. text.items ≡ header_line ++ flat_map (row_line dict.now) cuboid.now.rows) }
 {
+    let mut steps = Steps::<L>::new(blank);
     let mut text = line_of(
         alloc,
         &[
@@ -113,33 +111,15 @@ fn text_of_cuboid<L: Ledger>(
         ],
     )?;
     for i in 0..cuboid.len() {
-        let (key, cells) = cuboid.row(i, steps);
+        let (key, cells) = cuboid.row(i, &mut steps);
         let line = row_line(alloc, dict, key, cells)?;
         text.extend_from_slice(line.as_slice())?;
     }
     Ok(text)
 }
 
-// The text from the base cuboid, of which the cuboid of D1 is regrouped. Nobody counts the steps.
-fn text_of_base<L: Ledger>(
-    alloc: Global,
-    dict: &Dict,
-    base: &CellTable,
-    blank: Blank,
-) -> Result<Vec<u8>, AllocError>
-    requires blank { (blank.name ≡ L.name) × (blank.parts ≡ L.parts) × (0 < L.parts) }
-    requires within { IsWithin d1_alone base.now.mask }
-    requires rows { All (IsSumRow dict.now) (gathered base.now.forms (part_of base.now.mask d1_alone) base.now.rows) }
-    requires texts { All (FitsType ty.Text) dict.now }
-    ensures { IfOk result (λ text. text.items ≡ header_line ++ flat_map (row_line dict.now) (gathered base.now.forms (part_of base.now.mask d1_alone) base.now.rows)) }
-{
-    let mut steps = Steps::<L>::new(blank);
-    let cuboid = regroup(alloc, base, D1, &mut steps)?;
-    text_of_cuboid(alloc, dict, &cuboid, &mut steps)
-}
-
-// The base cuboid of D1 and D2. The rows are not kept.
-fn base_of<R: Threads + Sync>(
+// The cuboid of D1, by way of the base cuboids of D1 and D2 of the pieces. The rows are not kept.
+fn cuboid_of<R: Threads + Sync>(
     rt: &R,
     alloc: Global,
     flat: FlatRows,
@@ -147,9 +127,9 @@ fn base_of<R: Threads + Sync>(
 ) -> Result<CellTable, AllocError>
     requires few { length flat < 2 ^ 32 }
     requires dicts { dicts.now ≡ dicts_of flat }
-    ensures { IfOk result (IsBase (sum_of_m ∷ []) (dicts_of flat) flat) }
+    ensures { IfOk result (IsCuboid (sum_of_m ∷ []) (dicts_of flat) flat d1_alone) }
 {
-    base(rt, alloc, &flat, dicts, &[SUM_OF_M], PIECES)
+    cuboid(rt, alloc, &flat, dicts, &[SUM_OF_M], PIECES, D1)
 }
 
 /// The text of `fold` over the rows: the values of D1 and D2 are numbered, the rows aggregated by both, and the cells of each
@@ -164,7 +144,7 @@ pub fn fold_text<R: Threads + Sync>(
     ensures { IfOk result (λ text. text.items ≡ fold_text rows.items) }
 {
     let flat = FlatRows::of(rows);
-    let dicts = dictionaries(alloc, flat.rows())?;
-    let base = base_of(rt, alloc, flat, &dicts)?;
-    text_of_base::<Brand>(alloc, dicts.get(0), &base, Blank::new(1))
+    let dicts = dictionaries(rt, alloc, flat.rows())?;
+    let table = cuboid_of(rt, alloc, flat, &dicts)?;
+    text_of_cuboid::<Brand>(alloc, dicts.get(0), &table, Blank::new(1))
 }

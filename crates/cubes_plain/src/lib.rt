@@ -6,8 +6,8 @@
 //! The crate stands near the top: the words come from `command_line`; it reads through `outside::Files` and
 //! `table_reader`, makes the dictionaries of columns and cuboids of rows by `layer_builder`, has descriptors
 //! from `cube_desc` and the lines of their cuboids from `cuboid_lines`, and writes through `outside::Sink`. The modules:
-//! `rows` (the bytes of a file to rows, by `table_reader`), `dictionaries` (the numbers of D1 and of D2), `fold` (the base
-//! cuboid of both, the cuboid of D1 regrouped from it, and its text), `fold_command`, `cuboids` and `step` (the commands
+//! `rows` (the bytes of a file to rows, by `table_reader`), `dictionaries` (the numbers of D1 and of D2), `fold` (the cuboid
+//! of D1, by way of the base cuboids of pieces, and its text), `fold_command`, `cuboids` and `step` (the commands
 //! over their paths), `output` (what every command writes) and `plain` (the top call). Which bytes are tasks, and what their
 //! products are, comes in as a type, an `outside::StepWork`.
 //!

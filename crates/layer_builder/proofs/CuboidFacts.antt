@@ -54,7 +54,7 @@ kept-map p f (d ∷ ds) = by (p d) (kept-map p f ds)
     by true h = ap (λ l. f d ∷ l) h
     by false h = h
 
-part_of_key : (dicts : List (List Val)) (whole dims : Mask) → IsWithin dims whole → (row : List Val) → part_of whole dims (key_by dicts whole row) ≡ key_by dicts dims row
+pub part_of_key : (dicts : List (List Val)) (whole dims : Mask) → IsWithin dims whole → (row : List Val) → part_of whole dims (key_by dicts whole row) ≡ key_by dicts dims row
 unfolding dims_of
 part_of_key dicts whole dims within row =
     let number : ℕ → ℕ = λ column. number_in (dict_at dicts column) (value row column) in

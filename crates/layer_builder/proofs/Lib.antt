@@ -1,5 +1,6 @@
 pub mod BaseFacts
 pub mod CuboidFacts
+pub mod InPiecesFacts
 pub mod LayerFacts
 pub mod MadeFacts
 pub mod MaskFacts

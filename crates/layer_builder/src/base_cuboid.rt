@@ -74,8 +74,8 @@ fn table_of(
     Ok(table)
 }
 
-// The base cuboid of some rows.
-fn piece(
+/// The base cuboid of some rows.
+pub(crate) fn piece(
     alloc: Global,
     dicts: &DictSet,
     aggs: &[Agg],
@@ -94,8 +94,12 @@ fn piece(
     table_of(alloc, dicts, width, aggs, forms, &sorted)
 }
 
-// Rows cut into pieces of so many rows, and a shorter last one.
-fn cut<'a>(alloc: Global, rows: &'a [Row], size: usize) -> Result<Vec<&'a [Row]>, AllocError>
+/// Rows cut into pieces of so many rows, and a shorter last one.
+pub(crate) fn cut<'a>(
+    alloc: Global,
+    rows: &'a [Row],
+    size: usize,
+) -> Result<Vec<&'a [Row]>, AllocError>
     requires { 0 < size }
     ensures { IfOk result (λ pieces. flat_map (λ p. p.now) pieces.items ≡ rows.now) }
 {
@@ -140,8 +144,8 @@ fn tables_of<R: Threads + Sync>(
     all_made(alloc, made)
 }
 
-// The rows of tables, gathered by their whole keys.
-fn joined<L: Ledger>(
+/// The rows of tables, gathered by their whole keys.
+pub(crate) fn joined<L: Ledger>(
     alloc: Global,
     mask: Mask,
     forms: &[MeasureForm],

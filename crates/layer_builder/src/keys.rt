@@ -112,7 +112,7 @@ pub(crate) fn keyed_rows<'a>(
     for row in rows {
         let key = key_of(alloc, dicts, width, &mut recent, row)?;
         let vals = row.vals();
-        keyed.push(KeyedRow { key, vals })?;
+        keyed.push(KeyedRow::new(key, vals))?;
     }
     Ok(keyed)
 }

@@ -42,8 +42,8 @@ pub fn regroup<L: Ledger>(
     gather(alloc, mask, parent.forms(), rows)
 }
 
-// A smaller cuboid, of which nobody counts the steps.
-fn regroup_uncounted<L: Ledger>(
+/// A smaller cuboid, of which nobody counts the steps.
+pub(crate) fn regroup_uncounted<L: Ledger>(
     alloc: Global,
     parent: &CellTable,
     mask: Mask,

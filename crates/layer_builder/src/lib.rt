@@ -5,17 +5,18 @@
 //!
 //! At its boundary: `base` is the aggregate of the rows by all rowkey columns, in dictionary numbers, and the same for
 //! every number of pieces. `regroup` gathers a table's rows by some of its dimensions, in as many steps as there are
-//! rows, and `layer` makes many cuboids so. By `cuboids_of_rows` a table that is regrouped from the base, at once or by way
-//! of others, is the aggregate of the same rows.
+//! rows, and `layer` makes many cuboids so. `cuboid` makes a smaller cuboid from rows at once. By `cuboids_of_rows` a table
+//! that is regrouped from the base, at once or by way of others, is the aggregate of the same rows.
 //!
 //! The modules: `recent`: where values were found lately; `column_dict`: the dictionary of a column; `keys`: keys of rows;
 //! `runs`: rows in the order of their keys; `cells`: the cells of rows of one key; `base_cuboid`: the base cuboid; `layers`:
-//! smaller ones; `made`: the results of pieces; `laws`: what the tables are of the rows.
+//! smaller ones; `in_pieces`: a smaller one from rows; `made`: the results of pieces; `laws`: what the tables are of the rows.
 #![tactic(auto)]
 
 mod base_cuboid;
 mod cells;
 mod column_dict;
+mod in_pieces;
 mod keys;
 mod laws;
 mod layers;
@@ -25,5 +26,6 @@ mod runs;
 
 pub use base_cuboid::base;
 pub use column_dict::dict_of_column;
+pub use in_pieces::cuboid;
 pub use laws::cuboids_of_rows;
 pub use layers::{Want, layer, regroup};

@@ -9,5 +9,6 @@ pub loop-row-preserved : goal.loop-row-preserved
 loop-row-preserved c =
     let with_key : List Val → Keyed = λ row. (key_in c.args.dicts.now c.args.width row, row) in
     let row = c.row-item.result in
-    c.in_ok-push.ensures.items ∙ (λ j. c.loop-row.invariant j ++ (c.in_ok-key.ensures j, c.vals-vals.ensures j) ∷ [])
+    let made = c.new-in-loop-row.ensures ∙ (λ j. (c.in_ok-key.ensures j, c.vals-vals.ensures j)) in
+    c.in_ok-push.ensures.items ∙ (λ j. c.loop-row.invariant j ++ made j ∷ [])
     ∙ sym (column_more with_key c.args.rows.now c.loop-row.row-index row c.loop-row-test.true c.row-item.is)
