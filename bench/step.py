@@ -14,7 +14,7 @@ import time
 from dataclasses import dataclass
 
 from measure import HERE, fastest, megabytes
-from step_files import body_of, build_of, frame
+from step_build import body_of, build_of, frame
 
 CUBES = os.environ.get("CUBES", os.path.join(HERE, "..", "cubes"))
 REPEATS = 5

@@ -25,7 +25,7 @@ import sys
 import tempfile
 import time
 
-from step_files import HERE, body_of, build_of, frame
+from step_build import HERE, body_of, build_of, frame
 
 CUBES = os.environ.get("CUBES", os.path.join(HERE, "..", "cubes"))
 MOST_SECONDS = 5

@@ -2,15 +2,15 @@
 
     python3 bench/step_texts.py
 
-It writes the program's `stdin` and `stdout`. The files of the five steps of a small BUILD are those of step_files.py; which of the
+It writes the program's `stdin` and `stdout`. The files of the five steps of a small BUILD are those of step_build.py; which of the
 others are tasks and products is said here, byte by byte. Each step of that BUILD, and of one of the sample cube, is run too: its
-product is that of step_files.py. docs/FORMATS.md has the formats.
+product is that of step_build.py. docs/FORMATS.md has the formats.
 """
 
 import hashlib
 import os
 
-from step_files import HERE, Cube, body_of, build_of, frame, sized, steps_of, u8
+from step_build import HERE, Cube, body_of, build_of, frame, sized, steps_of, u8
 
 FOLDER = os.path.join(HERE, "..", "crates", "step_check")
 

@@ -6,7 +6,7 @@ use Rattle.std.proofs.lemmas.List.{length-map, length-take-le}
 use Rattle.std.proofs.lemmas.List.Elements.{All-nil}
 use Rattle.fixed_cube.specs.Answers.{by_first}
 use Rattle.fixed_cube.specs.Cube.{fixed}
-use Rattle.job_board.specs.Ledger.{Ledger, now, turns}
+use Rattle.job_board.specs.BoardModel.{BoardModel, now, turns}
 use Rattle.outside.specs.Rises.{Risen}
 use Rattle.outside.specs.declared.stopper.Request.{Request}
 use Rattle.outside.proofs.Rises.{Risen-none}
@@ -30,7 +30,7 @@ use Rattle.coordinator.specs.Taken.{IsTaken, IsTakenPart}
 -- ---- the stopper
 
 -- the attempts that a board's commands found in flight are those of its events over the inputs
-stops_over : (inputs inputs' : Inputs) → inputs ≡ inputs' → (board : Ledger) (history : List Event) → IsFront inputs board → history ≡ map event_of (turns board) → stops_of served inputs' history ≡ []
+stops_over : (inputs inputs' : Inputs) → inputs ≡ inputs' → (board : BoardModel) (history : List Event) → IsFront inputs board → history ≡ map event_of (turns board) → stops_of served inputs' history ≡ []
 stops_over inputs inputs' same board history front e =
     subst (λ (i : Inputs). stops_of served i history ≡ []) same
     (ap (stops_of served inputs) e
@@ -57,7 +57,7 @@ requests_same requests old new stops same =
     subst (λ x. AsksAmong stops (requests old) (requests x)) (sym same) ([], told_same (requests old), All-nil (Contains stops), no_pairs)
 
 module _ {P : Type 0} (old new : P) (same : new ≡ old) where
-  pub asks-over : (asks : P → ℕ) (inputs inputs' : Inputs) → inputs ≡ inputs' → (board : Ledger) (history : List Event) → IsFront inputs board → history ≡ map event_of (turns board)
+  pub asks-over : (asks : P → ℕ) (inputs inputs' : Inputs) → inputs ≡ inputs' → (board : BoardModel) (history : List Event) → IsFront inputs board → history ≡ map event_of (turns board)
       → Risen asks (old ∷ []) (new ∷ []) (length (stops_of served inputs' history))
   asks-over asks inputs inputs' e board history front h = asks_same asks old new (stops_of served inputs' history) (stops_over inputs inputs' e board history front h) same
 
@@ -77,15 +77,15 @@ some_turn : {X : Type 0} (xs ys zs : List X) (x : X) → zs ≡ xs ++ x ∷ ys �
 some_turn [] ys zs x e h = cc
 some_turn (y ∷ xs) ys zs x e h = cc
 
-pub none-before : (old new : Ledger) (later : List (Turn Ask)) → IsGrown old later new → turns new ≡ [] → turns old ≡ []
+pub none-before : (old new : BoardModel) (later : List (Turn Ask)) → IsGrown old later new → turns new ≡ [] → turns old ≡ []
 none-before old new later g h = front_none (turns old) later (turns new) g.turns h
 
-pub part-before : (old : Ledger) (line : Line) (new : Ledger) → IsTakenPart old line new → turns new ≡ [] → turns old ≡ []
+pub part-before : (old : BoardModel) (line : Line) (new : BoardModel) → IsTakenPart old line new → turns new ≡ [] → turns old ≡ []
 part-before old line new (inl g) h = none-before old new [] g h
 part-before old line new (inr q) h = none-before old new (take q.count (asked_turns line.number q.session)) q.grown h
 
 -- a line that was taken is a turn
-pub taken-some : (honest : Type 0) (tables : List LoadedTable) (old : Ledger) (line : Line) (said : Block) (new : Ledger) → IsTaken honest tables old line said new → turns new ≡ [] → ⊥
+pub taken-some : (honest : Type 0) (tables : List LoadedTable) (old : BoardModel) (line : Line) (said : Block) (new : BoardModel) → IsTaken honest tables old line said new → turns new ≡ [] → ⊥
 taken-some honest tables old line said new (inl c) h =
     some_turn (turns old) [] (turns new) (Takes line.number (command_of served (rows_at tables line.number) line.verb)) c.added.turns h
 taken-some honest tables old line said new (inr q) h =
@@ -96,7 +96,7 @@ no_line [] some e = some refl
 no_line (line ∷ script) some e = absurd (omega (arith, e))
 
 -- once all commands of a script were taken, there is a turn
-pub done-some : (inputs : Inputs) (board : Ledger) (taken : ℕ) → IsSound inputs board taken → is_done inputs.script taken (now board) ≡ true → inputs.script ≢ [] → turns board ≡ [] → ⊥
+pub done-some : (inputs : Inputs) (board : BoardModel) (taken : ℕ) → IsSound inputs board taken → is_done inputs.script taken (now board) ≡ true → inputs.script ≢ [] → turns board ≡ [] → ⊥
 done-some inputs board taken s d some none =
     let parts = and_parts (taken == length inputs.script) (is_settled (now board)) d in
     let all : taken ≡ length inputs.script = eqb-true taken (length inputs.script) parts.0 in

@@ -5,7 +5,7 @@ use Rattle.std.proofs.lemmas.List.{map-append, take-append-drop}
 use Rattle.std.proofs.lemmas.List.Concat.{flat_map-append}
 use Rattle.std.proofs.lemmas.List.Sums.{fold-append}
 use Rattle.fixed_cube.specs.Cube.{fixed}
-use Rattle.job_board.specs.Ledger.{IsAdded, IsSame, Ledger, now, turns}
+use Rattle.job_board.specs.BoardModel.{IsAdded, IsSame, BoardModel, now, turns}
 use Rattle.job_board.specs.Turns as board_turns
 use Rattle.job_machine.specs.Job.{state_after}
 use Rattle.job_machine.specs.declared.state.JobState.{JobState}
@@ -33,36 +33,36 @@ use Rattle.coordinator.specs.Stops.{request_for, requests_by, stops_along, stops
 
 -- ---- turns more
 
-pub grown-same : (old new : Ledger) → IsSame old new → IsGrown old [] new
+pub grown-same : (old new : BoardModel) → IsSame old new → IsGrown old [] new
 grown-same old new s = record { turns = ap board_turns.turns_of s.log ∙ sym (append-nil (turns old)); workers = s.workers }
 
-pub grown-equal : (old new : Ledger) → new ≡ old → IsGrown old [] new
-grown-equal old new e = record { turns = ap turns e ∙ sym (append-nil (turns old)); workers = ap (λ (l : Ledger). l.workers) e }
+pub grown-equal : (old new : BoardModel) → new ≡ old → IsGrown old [] new
+grown-equal old new e = record { turns = ap turns e ∙ sym (append-nil (turns old)); workers = ap (λ (l : BoardModel). l.workers) e }
 
-pub grown-added : (old : Ledger) (turn : Turn Ask) (new : Ledger) → IsAdded old turn new → IsGrown old (turn ∷ []) new
+pub grown-added : (old : BoardModel) (turn : Turn Ask) (new : BoardModel) → IsAdded old turn new → IsGrown old (turn ∷ []) new
 grown-added old turn new a = record { turns = a.turns; workers = a.workers }
 
-pub grown-then : (old mid new : Ledger) (first later : List (Turn Ask)) → IsGrown old first mid → IsGrown mid later new → IsGrown old (first ++ later) new
+pub grown-then : (old mid new : BoardModel) (first later : List (Turn Ask)) → IsGrown old first mid → IsGrown mid later new → IsGrown old (first ++ later) new
 grown-then old mid new first later g h = record {
   turns = h.turns ∙ (ap (λ (ts : List (Turn Ask)). ts ++ later) g.turns ∙ append_assoc (turns old) first later);
   workers = h.workers ∙ g.workers;
 }
 
 -- a turn after a call that leaves the board as it is
-pub added-same : (old mid : Ledger) (turn : Turn Ask) (new : Ledger) → IsSame old mid → IsAdded mid turn new → IsAdded old turn new
+pub added-same : (old mid : BoardModel) (turn : Turn Ask) (new : BoardModel) → IsSame old mid → IsAdded mid turn new → IsAdded old turn new
 added-same old mid turn new s a = record {
   turns = a.turns ∙ ap (λ (ts : List (Turn Ask)). ts ++ turn ∷ []) (ap board_turns.turns_of s.log);
   workers = a.workers ∙ s.workers;
 }
 
-pub same-equal : (old mid new : Ledger) → IsSame old mid → new ≡ mid → IsSame old new
+pub same-equal : (old mid new : BoardModel) → IsSame old mid → new ≡ mid → IsSame old new
 same-equal old mid new s e = subst (IsSame old) (sym e) s
 
-pub now-same : (old new : Ledger) → IsSame old new → now new ≡ now old
+pub now-same : (old new : BoardModel) → IsSame old new → now new ≡ now old
 now-same old new s =
     ap (λ (n : ℕ). world fixed n (turns new)) s.workers ∙ ap (λ (ts : List (Turn Ask)). world fixed old.workers ts) (ap board_turns.turns_of s.log)
 
-module _ (old new : Ledger) (later : List (Turn Ask)) (g : IsGrown old later new) where
+module _ (old new : BoardModel) (later : List (Turn Ask)) (g : IsGrown old later new) where
   pub now-grown : now new ≡ fold (step fixed) (now old) later
   now-grown =
       ap (λ (n : ℕ). world fixed n (turns new)) g.workers
@@ -96,7 +96,7 @@ stops_append w (turn ∷ turns) later =
     ap (λ (rs : List Request). stops_at w turn ++ rs) (stops_append (step fixed w turn) turns later)
     ∙ sym (append_assoc (stops_at w turn) (stops_along fixed (step fixed w turn) turns) (stops_along fixed (fold (step fixed) (step fixed w turn) turns) later))
 
-pub no-stops-grown : (old new : Ledger) (later : List (Turn Ask)) → IsGrown old later new → stops_along fixed (now old) later ≡ [] → stops_in old ≡ [] → stops_in new ≡ []
+pub no-stops-grown : (old new : BoardModel) (later : List (Turn Ask)) → IsGrown old later new → stops_along fixed (now old) later ≡ [] → stops_in old ≡ [] → stops_in new ≡ []
 no-stops-grown old new later g more none =
     ap (λ (n : ℕ). stops_along fixed (start n (length fixed.tables)) (turns new)) g.workers
     ∙ (ap (stops_along fixed (start old.workers (length fixed.tables))) g.turns
@@ -111,7 +111,7 @@ stops_steps w (Takes line command ∷ later) h = absurd h.0
 stops_steps w (QueryTakes line ∷ later) h = absurd h.0
 stops_steps w (QueryEnds line out ∷ later) h = absurd h.0
 
-pub no-stops-worked : (old new : Ledger) → IsWorked old new → stops_in old ≡ [] → stops_in new ≡ []
+pub no-stops-worked : (old new : BoardModel) → IsWorked old new → stops_in old ≡ [] → stops_in new ≡ []
 no-stops-worked old new w none = no-stops-grown old new w.later w.grown (stops_steps (now old) w.later w.steps) none
 
 attempt_none : (b : Bool) (job attempt : ℕ) → b ≡ false → request_for job (cond b (Some attempt) None) ≡ []
@@ -147,7 +147,7 @@ along-parts : (P : World Ask → Turn Ask → Type 0) (w : World Ask) (turns lat
 along-parts P w [] later h = (tt, h)
 along-parts P w (turn ∷ turns) later h = let rest = along-parts P (step fixed w turn) turns later h.1 in ((h.0, rest.0), rest.1)
 
-pub trusted-grown : (honest : Type 0) (old new : Ledger) (later : List (Turn Ask)) → IsGrown old later new → AreTrusted honest new.workers (turns new)
+pub trusted-grown : (honest : Type 0) (old new : BoardModel) (later : List (Turn Ask)) → IsGrown old later new → AreTrusted honest new.workers (turns new)
     → AreTrusted honest old.workers (turns old) × (honest ⊎ Along fixed IsOverNone (now old) later)
 trusted-grown honest old new later g (inl h) = (inl h, inl h)
 trusted-grown honest old new later g (inr h) =
@@ -183,21 +183,21 @@ steps-entries script w entries (Takes line command ∷ later) h = absurd h.0
 steps-entries script w entries (QueryTakes line ∷ later) h = absurd h.0
 steps-entries script w entries (QueryEnds line out ∷ later) h = absurd h.0
 
-pub worked-entries : (script : List Line) (old new : Ledger) → IsWorked old new → entries_in script new ≡ entries_in script old
+pub worked-entries : (script : List Line) (old new : BoardModel) → IsWorked old new → entries_in script new ≡ entries_in script old
 worked-entries script old new w = entries-grown old new w.later w.grown script ∙ steps-entries script (now old) (entries_in script old) w.later w.steps
 
-pub worked-named : (inputs : Inputs) (old new : Ledger) → IsWorked old new → turns_of served inputs (map event_of (turns old)) ≡ turns old
+pub worked-named : (inputs : Inputs) (old new : BoardModel) → IsWorked old new → turns_of served inputs (map event_of (turns old)) ≡ turns old
     → turns_of served inputs (map event_of (turns new)) ≡ turns new
 worked-named inputs old new w n = named-grown old new w.later w.grown inputs n (steps-named inputs w.later w.steps)
 
-pub worked-lines : (old new : Ledger) → IsWorked old new → lines_taken (map event_of (turns new)) ≡ lines_taken (map event_of (turns old))
+pub worked-lines : (old new : BoardModel) → IsWorked old new → lines_taken (map event_of (turns new)) ≡ lines_taken (map event_of (turns old))
 worked-lines old new w =
     lines-grown old new w.later w.grown
     ∙ (ap (λ (ls : List ℕ). lines_taken (map event_of (turns old)) ++ ls) (steps-lines w.later w.steps) ∙ append-nil (lines_taken (map event_of (turns old))))
 
 -- ---- what is front
 
-pub front-sound : (inputs : Inputs) (board : Ledger) (taken : ℕ) → IsSound inputs board taken → IsFront inputs board
+pub front-sound : (inputs : Inputs) (board : BoardModel) (taken : ℕ) → IsSound inputs board taken → IsFront inputs board
 front-sound inputs board taken s = record {
   workers = s.workers;
   named = s.named;
@@ -209,7 +209,7 @@ front-sound inputs board taken s = record {
       ∙ ap (λ (ls : List ℕ). ls ++ lines_in (drop taken inputs.script)) (sym s.in_order));
 }
 
-pub front-worked : (inputs : Inputs) (old new : Ledger) → IsWorked old new → IsFront inputs old → IsFront inputs new
+pub front-worked : (inputs : Inputs) (old new : BoardModel) → IsWorked old new → IsFront inputs old → IsFront inputs new
 front-worked inputs old new w f = record {
   workers = w.grown.workers ∙ f.workers;
   named = worked-named inputs old new w f.named;

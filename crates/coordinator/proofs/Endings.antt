@@ -1,6 +1,6 @@
 -- The text of the end line, and what a run leaves of the inputs that it was given.
 use Rattle.std.proofs.Common.{◌≡◌, ◌≢◌, ℕ, ◌++◌, Option, Result, Ok, Err, OnOk, OnErr, List, [], refl, sym, ap, ◌∙◌, subst, arith}
-use Rattle.job_board.specs.Ledger.{Ledger}
+use Rattle.job_board.specs.BoardModel.{BoardModel}
 use Rattle.outside.proofs.Rises.{Risen-none}
 use Rattle.run_history.specs.declared.event.Event.{Event}
 use Rattle.run_inputs.specs.declared.inputs.FixedInputs.{FixedInputs}
@@ -32,19 +32,19 @@ module _ (script script' : List Line) (tables tables' : List LoadedTable) (s : s
   pub given-again : AreGiven script tables → AreGiven script' tables'
   given-again h = subst (λ (lines : List Line). AreGiven lines tables') (sym s) (subst (λ (loads : List LoadedTable). AreGiven script loads) (sym t) h)
 
-  pub front-again : (board : Ledger) → IsFront (inputs_in script' tables') board → IsFront (inputs_in script tables) board
+  pub front-again : (board : BoardModel) → IsFront (inputs_in script' tables') board → IsFront (inputs_in script tables) board
   front-again board f = subst (λ (inputs : Inputs). IsFront inputs board) same-inputs f
 
-  pub front-forth : (board : Ledger) → IsFront (inputs_in script tables) board → IsFront (inputs_in script' tables') board
+  pub front-forth : (board : BoardModel) → IsFront (inputs_in script tables) board → IsFront (inputs_in script' tables') board
   front-forth board f = subst (λ (inputs : Inputs). IsFront inputs board) (sym same-inputs) f
 
-  pub sound-again : (board : Ledger) (taken : ℕ) → IsSound (inputs_in script' tables') board taken → IsSound (inputs_in script tables) board taken
+  pub sound-again : (board : BoardModel) (taken : ℕ) → IsSound (inputs_in script' tables') board taken → IsSound (inputs_in script tables) board taken
   sound-again board taken f = subst (λ (inputs : Inputs). IsSound inputs board taken) same-inputs f
 
-  pub sound-forth : (board : Ledger) (taken : ℕ) → IsSound (inputs_in script tables) board taken → IsSound (inputs_in script' tables') board taken
+  pub sound-forth : (board : BoardModel) (taken : ℕ) → IsSound (inputs_in script tables) board taken → IsSound (inputs_in script' tables') board taken
   sound-forth board taken f = subst (λ (inputs : Inputs). IsSound inputs board taken) (sym same-inputs) f
 
-module _ (honest : Type 0) (script script' : List Line) (s : script' ≡ script) (old new : Ledger) (before mid later : Option (List ℕ)) where
+module _ (honest : Type 0) (script script' : List Line) (s : script' ≡ script) (old new : BoardModel) (before mid later : Option (List ℕ)) where
   pub written-again : HasWritten honest script old before mid → (HasWritten honest script' old before mid → HasWritten honest script' new before later)
       → HasWritten honest script new before later
   written-again h f =
@@ -57,17 +57,17 @@ module _ (honest : Type 0) (script script' : List Line) (s : script' ≡ script)
 
 -- ---- before the first turn
 
-pub start-sound : (script : List Line) (tables : List LoadedTable) (board : Ledger) (taken : ℕ) → board ≡ empty_board 1 → taken ≡ 0 → RisesFrom 0 script → IsSound (inputs_in script tables) board taken
+pub start-sound : (script : List Line) (tables : List LoadedTable) (board : BoardModel) (taken : ℕ) → board ≡ empty_board 1 → taken ≡ 0 → RisesFrom 0 script → IsSound (inputs_in script tables) board taken
 start-sound script tables board taken b t rise =
-    subst (λ (x : Ledger). IsSound (inputs_in script tables) x taken) (sym b)
+    subst (λ (x : BoardModel). IsSound (inputs_in script tables) x taken) (sym b)
     (subst (λ (n : ℕ). IsSound (inputs_in script tables) (empty_board 1) n) (sym t) (sound-start (inputs_in script tables) (omega arith) rise))
 
-pub start-written : (honest : Type 0) (script : List Line) (board : Ledger) (before : Option (List ℕ)) → board ≡ empty_board 1 → HasWritten honest script board before before
-start-written honest script board before b = subst (λ (x : Ledger). HasWritten honest script x before before) (sym b) (written-start honest script 1 before)
+pub start-written : (honest : Type 0) (script : List Line) (board : BoardModel) (before : Option (List ℕ)) → board ≡ empty_board 1 → HasWritten honest script board before before
+start-written honest script board before b = subst (λ (x : BoardModel). HasWritten honest script x before before) (sym b) (written-start honest script 1 before)
 
-pub start-counted : {H : Type 0} (runs faults : H → ℕ) (hands : List H) (board : Ledger) → board ≡ empty_board 1 → IsCounted runs faults hands hands board
+pub start-counted : {H : Type 0} (runs faults : H → ℕ) (hands : List H) (board : BoardModel) → board ≡ empty_board 1 → IsCounted runs faults hands hands board
 start-counted runs faults hands board b =
-    subst (λ (x : Ledger). IsCounted runs faults hands hands x) (sym b) (record { ran = Risen-none runs hands; failed = Risen-none faults hands })
+    subst (λ (x : BoardModel). IsCounted runs faults hands hands x) (sym b) (record { ran = Risen-none runs hands; failed = Risen-none faults hands })
 
 -- ---- what a run leaves
 

@@ -6,7 +6,7 @@ use Rattle.std.proofs.lemmas.List.Sums.{sum_by-append}
 use Rattle.fixed_cube.specs.Cube.{fixed}
 use Rattle.fixed_cube.specs.Tasks.{product_of}
 use Rattle.fixed_state.specs.Ends.{Answer, IsJudged, IsOutcomeOf, IsProductOf, outcome_of, stale_outcome}
-use Rattle.job_board.specs.Ledger.{IsCountedAs, IsRecordedAs, Ledger, task_of, turns}
+use Rattle.job_board.specs.BoardModel.{IsCountedAs, IsRecordedAs, BoardModel, task_of, turns}
 use Rattle.job_machine.specs.Job.{Act, JobRecord, is_current, moved_or_same, next, state_after}
 use Rattle.job_machine.specs.declared.state.JobKind.{JobKind}
 use Rattle.job_machine.specs.declared.state.JobKind.TheVariants.{Build, Refresh, Merge}
@@ -155,14 +155,14 @@ faults_rose count old new (Err fault.NoFile) later h = let r = h (λ e. cc) in R
 pub runs_rose : {H : Type 0} (count : H → ℕ) (old new : H) → Rose (count old) (count new) → Risen count (old ∷ []) (new ∷ []) 1
 runs_rose count old new r = Risen-one count old new 1 (λ below. omega (arith, r, below))
 
-ends_grown : (test : Event → Bool) (old new : Ledger) (later : List (Turn Query)) → IsGrown old later new
+ends_grown : (test : Event → Bool) (old new : BoardModel) (later : List (Turn Query)) → IsGrown old later new
     → count_by test (map event_of (turns new)) ≡ count_by test (map event_of (turns old)) + count_by test (map event_of later)
 ends_grown test old new later g =
     ap (λ (ts : List (Turn Query)). count_by test (map event_of ts)) g.turns
     ∙ (ap (count_by test) (map-append event_of (turns old) later) ∙ sum_by-append (λ event. cond (test event) 1 0) (map event_of (turns old)) (map event_of later))
 
 -- turns, while hands count so much more
-pub counted-grown : {H : Type 0} (runs faults : H → ℕ) (base hands hands' : List H) (old new : Ledger) (later : List (Turn Query)) (n m : ℕ) → IsGrown old later new
+pub counted-grown : {H : Type 0} (runs faults : H → ℕ) (base hands hands' : List H) (old new : BoardModel) (later : List (Turn Query)) (n m : ℕ) → IsGrown old later new
     → run_ends (map event_of later) ≤ n → fault_ends (map event_of later) ≤ m → Risen runs hands hands' n → Risen faults hands hands' m
     → IsCounted runs faults base hands old → IsCounted runs faults base hands' new
 counted-grown runs faults base hands hands' old new later n m g hn hm rn rm c = record {
@@ -170,7 +170,7 @@ counted-grown runs faults base hands hands' old new later n m g hn hm rn rm c = 
   failed = Risen-fewer faults base hands' _ _ (omega (arith, ends_grown (is_end is_fault) old new later g, hm)) (Risen-then faults base hands hands' _ m c.failed rm);
 }
 
-pub counted-silent : {H : Type 0} (runs faults : H → ℕ) (base hands : List H) (old new : Ledger) (later : List (Turn Query)) → IsGrown old later new
+pub counted-silent : {H : Type 0} (runs faults : H → ℕ) (base hands : List H) (old new : BoardModel) (later : List (Turn Query)) → IsGrown old later new
     → run_ends (map event_of later) ≡ 0 → fault_ends (map event_of later) ≡ 0 → IsCounted runs faults base hands old → IsCounted runs faults base hands new
 counted-silent runs faults base hands old new later g hn hm c =
     counted-grown runs faults base hands hands old new later 0 0 g (omega (arith, hn)) (omega (arith, hm)) (Risen-none runs hands) (Risen-none faults hands) c

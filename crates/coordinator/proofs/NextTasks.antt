@@ -15,7 +15,7 @@ use Rattle.fixed_state.specs.Kept.{IsLoaded}
 use Rattle.fixed_state.specs.Tasks.{snapshot_now, task_by, task_kept}
 use Rattle.fixed_state.proofs.Jobs.{IsNoStep, done_next, fits_tables, live_next}
 use Rattle.fixed_state.proofs.Pairs.{fits_at, fits_push, fits_set, fits_set_left, job_place}
-use Rattle.job_board.specs.Ledger.{IsCountedAs, IsRecordedAs, ended_of, task_of}
+use Rattle.job_board.specs.BoardModel.{IsCountedAs, IsRecordedAs, ended_of, task_of}
 use Rattle.job_machine.specs.Job.{Act, JobRecord, is_current, is_last_step, moved_or_same, next, state_after}
 use Rattle.job_machine.specs.declared.state.Ended.{Ended}
 use Rattle.job_machine.specs.declared.state.Ended.TheVariants as ended

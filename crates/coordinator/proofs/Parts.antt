@@ -4,7 +4,7 @@ use Rattle.std.specs.Io.KnownBytes.{append_known}
 use Rattle.std.proofs.lemmas.List.{map-append, take-append-drop}
 use Rattle.fixed_cube.specs.Answers.{by_first}
 use Rattle.fixed_cube.specs.Cube.{fixed}
-use Rattle.job_board.specs.Ledger.{Ledger, now, turns}
+use Rattle.job_board.specs.BoardModel.{BoardModel, now, turns}
 use Rattle.outside.specs.Written.{AppendsPart}
 use Rattle.plain_answer.specs.declared.ask.Ask.{Ask as Query}
 use Rattle.run_history.specs.Commands.{Command, Turn, event_of}
@@ -32,7 +32,7 @@ use Rattle.coordinator.proofs.Written.{all_then, part_front, part_then}
 
 -- ---- a line that was taken
 
-module _ (honest : Type 0) (script : List Line) (tables : List LoadedTable) (old : Ledger) (taken : ℕ) (line : Line) (said : Block) (new : Ledger)
+module _ (honest : Type 0) (script : List Line) (tables : List LoadedTable) (old : BoardModel) (taken : ℕ) (line : Line) (said : Block) (new : BoardModel)
     (rise : RisesFrom 0 script) (e : slice_get script taken ≡ Some line) (s : IsSound (inputs_in script tables) old taken) where
   pub tells-taken : IsTaken honest tables old line said new → (later : List (Turn Query)) × TellsLine honest script tables old line said later new
   tells-taken (inl c) = (Takes line.number (command_of served (rows_at tables line.number) line.verb) ∷ [], tells-command honest script tables old taken line said new rise e s.idle c)
@@ -59,7 +59,7 @@ module _ (honest : Type 0) (script : List Line) (tables : List LoadedTable) (old
 
 -- ---- turns after which nothing more was written
 
-pub part-grown : (honest : Type 0) (script : List Line) (old new : Ledger) (later : List (Turn Query)) (before written : Option (List ℕ)) → IsGrown old later new
+pub part-grown : (honest : Type 0) (script : List Line) (old new : BoardModel) (later : List (Turn Query)) (before written : Option (List ℕ)) → IsGrown old later new
     → HasWritten honest script old before written → HasWrittenPart honest script new before written
 part-grown honest script old new later before written g h = λ trusted.
     let first = trusted-grown honest old new later g trusted in
@@ -67,7 +67,7 @@ part-grown honest script old new later before written g h = λ trusted.
     part_front before written (told_text (entries_in script old)) more.0 (told_text (entries_in script new)) (h first.0)
     (ap told_text (entries-grown old new later g script) ∙ more.1)
 
-pub written-worked : (honest : Type 0) (script : List Line) (old new : Ledger) (before written : Option (List ℕ)) → IsWorked old new
+pub written-worked : (honest : Type 0) (script : List Line) (old new : BoardModel) (before written : Option (List ℕ)) → IsWorked old new
     → HasWritten honest script old before written → HasWritten honest script new before written
 written-worked honest script old new before written w h = λ trusted.
     let first = trusted-grown honest old new w.later w.grown trusted in
@@ -75,7 +75,7 @@ written-worked honest script old new before written w h = λ trusted.
 
 -- ---- a line that was not taken, or only in part
 
-module _ (script : List Line) (tables : List LoadedTable) (old : Ledger) (taken : ℕ) (new : Ledger) (s : IsSound (inputs_in script tables) old taken) where
+module _ (script : List Line) (tables : List LoadedTable) (old : BoardModel) (taken : ℕ) (new : BoardModel) (s : IsSound (inputs_in script tables) old taken) where
   -- the lines taken are the first ones
   front-grown : (later : List (Turn Query)) (lines rest : List ℕ) → IsGrown old later new → turns_of served (inputs_in script tables) (map event_of later) ≡ later
       → lines_taken (map event_of later) ≡ lines → lines_in (drop taken script) ≡ lines ++ rest → stops_along fixed (now old) later ≡ [] → IsFront (inputs_in script tables) new
@@ -117,7 +117,7 @@ module _ (script : List Line) (tables : List LoadedTable) (old : Ledger) (taken 
     front-part (inr q) = front-query q q.count refl
 
 -- what is written stays a part
-pub part-of-part : (honest : Type 0) (script : List Line) (old : Ledger) (line : Line) (new : Ledger) (before written : Option (List ℕ)) → IsTakenPart old line new
+pub part-of-part : (honest : Type 0) (script : List Line) (old : BoardModel) (line : Line) (new : BoardModel) (before written : Option (List ℕ)) → IsTakenPart old line new
     → HasWritten honest script old before written → HasWrittenPart honest script new before written
 part-of-part honest script old line new before written (inl g) h = part-grown honest script old new [] before written g h
 part-of-part honest script old line new before written (inr q) h = part-grown honest script old new (take q.count (asked_turns line.number q.session)) before written q.grown h
@@ -130,7 +130,7 @@ ends_none line session (suc zero) = (refl, refl)
 ends_none line session (suc (suc zero)) = (refl, refl)
 ends_none line session (suc (suc (suc n))) = (refl, refl)
 
-pub counted-taken : {H : Type 0} (runs faults : H → ℕ) (base hands : List H) (honest : Type 0) (tables : List LoadedTable) (old : Ledger) (line : Line) (said : Block) (new : Ledger)
+pub counted-taken : {H : Type 0} (runs faults : H → ℕ) (base hands : List H) (honest : Type 0) (tables : List LoadedTable) (old : BoardModel) (line : Line) (said : Block) (new : BoardModel)
     → IsTaken honest tables old line said new → IsCounted runs faults base hands old → IsCounted runs faults base hands new
 counted-taken runs faults base hands honest tables old line said new (inl c) h =
     counted-silent runs faults base hands old new (Takes line.number (command_of served (rows_at tables line.number) line.verb) ∷ [])
@@ -138,7 +138,7 @@ counted-taken runs faults base hands honest tables old line said new (inl c) h =
 counted-taken runs faults base hands honest tables old line said new (inr q) h =
     counted-silent runs faults base hands old new (asked_turns line.number q.session ++ QueryEnds line.number q.out ∷ []) q.grown refl refl h
 
-pub counted-part : {H : Type 0} (runs faults : H → ℕ) (base hands : List H) (old : Ledger) (line : Line) (new : Ledger) → IsTakenPart old line new
+pub counted-part : {H : Type 0} (runs faults : H → ℕ) (base hands : List H) (old : BoardModel) (line : Line) (new : BoardModel) → IsTakenPart old line new
     → IsCounted runs faults base hands old → IsCounted runs faults base hands new
 counted-part runs faults base hands old line new (inl g) h = counted-silent runs faults base hands old new [] g refl refl h
 counted-part runs faults base hands old line new (inr q) h =

@@ -5,7 +5,7 @@ use Rattle.std.specs.List.{list_any}
 use Rattle.fixed_cube.specs.Answers.{by_first}
 use Rattle.fixed_cube.specs.Cube.{fixed}
 use Rattle.fixed_state.specs.Ready.{AreCellsOf}
-use Rattle.job_board.specs.Ledger.{IsAdded, IsSame, Ledger, next_query, now}
+use Rattle.job_board.specs.BoardModel.{IsAdded, IsSame, BoardModel, next_query, now}
 use Rattle.job_board.specs.declared.answers.QueryWork.{QueryWork}
 use Rattle.plain_answer.specs.declared.ask.Ask.{Ask as Query}
 use Rattle.run_history.specs.Commands.{Command}
@@ -179,7 +179,7 @@ module _ (w : World Query) (line session : ℕ) (i : IsIdle w) where
 
 -- ---- the calls of a query
 
-module _ (old mid : Ledger) (line session : ℕ) (i : IsIdle (now old)) (a : IsAdded old (Takes line (Ask session by_first)) mid) where
+module _ (old mid : BoardModel) (line session : ℕ) (i : IsIdle (now old)) (a : IsAdded old (Takes line (Ask session by_first)) mid) where
   now_accepted : now mid ≡ accepted_world (now old) line session
   now_accepted = now-grown old mid (Takes line (Ask session by_first) ∷ []) (grown-added old (Takes line (Ask session by_first)) mid a)
 
@@ -194,7 +194,7 @@ module _ (old mid : Ledger) (line session : ℕ) (i : IsIdle (now old)) (a : IsA
     next = next_waiting (now old) line session i;
   })
 
-  module _ (later : Ledger) (t : IsAdded mid (QueryTakes line) later) where
+  module _ (later : BoardModel) (t : IsAdded mid (QueryTakes line) later) where
     now_taken : now later ≡ taken_world (now old) line session
     now_taken =
         now-grown mid later (QueryTakes line ∷ []) (grown-added mid (QueryTakes line) later t)
@@ -223,7 +223,7 @@ module _ (old mid : Ledger) (line session : ℕ) (i : IsIdle (now old)) (a : IsA
       by_ready ready (inl h) = inl h
       by_ready ready (inr h) = inr (ready ∙ h)
 
-    pub grown_query : (new : Ledger) (out : QueryOut) → IsAdded later (QueryEnds line out) new → IsGrown old (asked_turns line session ++ QueryEnds line out ∷ []) new
+    pub grown_query : (new : BoardModel) (out : QueryOut) → IsAdded later (QueryEnds line out) new → IsGrown old (asked_turns line session ++ QueryEnds line out ∷ []) new
     grown_query new out e =
         grown-then old later new (asked_turns line session) (QueryEnds line out ∷ []) grown_taken (grown-added later (QueryEnds line out) new e) where
           grown_taken : IsGrown old (asked_turns line session) later
@@ -231,21 +231,21 @@ module _ (old mid : Ledger) (line session : ℕ) (i : IsIdle (now old)) (a : IsA
               grown-then old mid later (Takes line (Ask session by_first) ∷ []) (QueryTakes line ∷ []) (grown-added old (Takes line (Ask session by_first)) mid a)
               (grown-added mid (QueryTakes line) later t)
 
-    pub part_taken : (new : Ledger) → IsSame later new → (count : ℕ) × IsGrown old (take count (asked_turns line session)) new
+    pub part_taken : (new : BoardModel) → IsSame later new → (count : ℕ) × IsGrown old (take count (asked_turns line session)) new
     part_taken new e = (
       2,
       grown-then old mid new (Takes line (Ask session by_first) ∷ []) (QueryTakes line ∷ []) (grown-added old (Takes line (Ask session by_first)) mid a)
           (grown-then mid later new (QueryTakes line ∷ []) [] (grown-added mid (QueryTakes line) later t) (grown-same later new e)),
     )
 
-  pub part_accepted : (new : Ledger) → IsSame mid new → (count : ℕ) × IsGrown old (take count (asked_turns line session)) new
+  pub part_accepted : (new : BoardModel) → IsSame mid new → (count : ℕ) × IsGrown old (take count (asked_turns line session)) new
   part_accepted new e = (1, grown-then old mid new (Takes line (Ask session by_first) ∷ []) [] (grown-added old (Takes line (Ask session by_first)) mid a) (grown-same mid new e))
 
-pub part_none : (old new : Ledger) (line session : ℕ) → IsSame old new → (count : ℕ) × IsGrown old (take count (asked_turns line session)) new
+pub part_none : (old new : BoardModel) (line session : ℕ) → IsSame old new → (count : ℕ) × IsGrown old (take count (asked_turns line session)) new
 part_none old new line session e = (0, grown-same old new e)
 
 -- the turns of a query, and what they tell
-module _ (honest : Type 0) (script : List Line) (tables : List LoadedTable) (old : Ledger) (taken : ℕ) (line : Line) (said : Block) (new : Ledger)
+module _ (honest : Type 0) (script : List Line) (tables : List LoadedTable) (old : BoardModel) (taken : ℕ) (line : Line) (said : Block) (new : BoardModel)
     (rise : RisesFrom 0 script) (e : slice_get script taken ≡ Some line) (s : IsSound (inputs_in script tables) old taken) (q : IsQuery honest old line said new) where
   after : now new ≡ step fixed (taken_world (now old) line.number q.session) (QueryEnds line.number q.out)
   after = now-grown old new (asked_turns line.number q.session ++ QueryEnds line.number q.out ∷ []) q.grown

@@ -1,6 +1,6 @@
 -- The board before the first turn.
 use Rattle.std.proofs.Common.{◌≡◌, ℕ, zero, suc, ◌<◌, Option, Some, List, [], refl, sym, arith}
-use Rattle.job_board.specs.Ledger.{Ledger}
+use Rattle.job_board.specs.BoardModel.{BoardModel}
 use Rattle.run_history.specs.World.{Submitted, job_at}
 use Rattle.run_transcript.specs.Served.{Inputs}
 use Rattle.script_text.specs.declared.verb.Line.{Line}
@@ -8,7 +8,7 @@ use Rattle.coordinator.specs.Coordinator.{HasWritten, IsSound, RisesFrom}
 use Rattle.coordinator.proofs.NextTasks.{tasks-start}
 use Rattle.coordinator.proofs.Written.{append_none}
 
-abbrev pub empty_board : ℕ → Ledger
+abbrev pub empty_board : ℕ → BoardModel
 empty_board workers = record { workers = workers; log = []; room = 0; products = [] }
 
 no_job : (n : ℕ) (s : Submitted) → job_at [] n ≡ Some s → ⊥

@@ -1,7 +1,7 @@
 -- Where nothing may come next, nothing is left to do.
 use Rattle.std.proofs.Common.{◌≡◌, ℕ, zero, suc, ◌≤◌, ◌<◌, Bool, true, false, ◌&&◌, ◌||◌, Some, List, [], ◌∷◌, length, slice_get, refl, ap, ◌∙◌, arith, eq-eqb}
 use Rattle.std.specs.List.{list_any}
-use Rattle.job_board.specs.Ledger.{Ledger, now}
+use Rattle.job_board.specs.BoardModel.{BoardModel, now}
 use Rattle.plain_answer.specs.declared.ask.Ask.{Ask as Query}
 use Rattle.run_history.specs.Histories.{AreAtRest, IsAtRest, MayNote, is_empty, is_settled}
 use Rattle.run_history.specs.World.{Asked, Submitted, Waiting, World, is_under_way, job_of}
@@ -57,7 +57,7 @@ settled w queue steps waiting asked =
     ∙ (ap (λ (l : List (ℕ × ℕ)). is_empty l && is_empty w.waiting && is_empty w.asked) steps
     ∙ (ap (λ (l : List (Waiting Query)). is_empty l && is_empty w.asked) waiting ∙ ap (λ (l : List (Asked Query)). is_empty l) asked))
 
-pub done-still : (inputs : Inputs) (board : Ledger) (taken : ℕ) → IsSound inputs board taken → IsStill inputs.script taken (now board)
+pub done-still : (inputs : Inputs) (board : BoardModel) (taken : ℕ) → IsSound inputs board taken → IsStill inputs.script taken (now board)
     → ((now board).queue ≡ [] → (now board).steps ≡ [] → AreAtRest (now board).jobs) → is_done inputs.script taken (now board) ≡ true
 done-still inputs board taken s k rest =
     let all : taken ≡ length inputs.script = at_end inputs.script taken s.within (λ below.

@@ -2,7 +2,7 @@
 use Rattle.std.proofs.Common.{◌≡◌, ℕ, ◌+◌, Option, Some, List, [], ◌∷◌, ◌++◌, map, drop, slice_get, refl, sym, ap, ◌∙◌, subst, arith}
 use Rattle.std.proofs.lemmas.Option.{slice_get_within}
 use Rattle.fixed_cube.specs.Cube.{fixed}
-use Rattle.job_board.specs.Ledger.{Ledger, now, turns}
+use Rattle.job_board.specs.BoardModel.{BoardModel, now, turns}
 use Rattle.plain_answer.specs.declared.ask.Ask.{Ask as Query}
 use Rattle.run_history.specs.Commands.{Command, Turn, event_of}
 use Rattle.run_history.specs.Commands.Turn.{Takes}
@@ -36,7 +36,7 @@ told_push (Open other ∷ entries) line said h = absurd h
 
 -- ---- some turns with the one command of a line, which tell its block
 
-pub record TellsLine (honest : Type 0) (script : List Line) (tables : List LoadedTable) (old : Ledger) (line : Line) (said : Block) (later : List (Turn Query)) (new : Ledger) : Type 0 where
+pub record TellsLine (honest : Type 0) (script : List Line) (tables : List LoadedTable) (old : BoardModel) (line : Line) (said : Block) (later : List (Turn Query)) (new : BoardModel) : Type 0 where
   pub grown : IsGrown old later new
   pub named : turns_of served (inputs_in script tables) (map event_of later) ≡ later
   pub lines : lines_taken (map event_of later) ≡ line.number ∷ []
@@ -48,7 +48,7 @@ pub record TellsLine (honest : Type 0) (script : List Line) (tables : List Loade
   pub entries : entries_in script new ≡ entries_in script old ++ Told line.number told ∷ []
   pub trusted : AreTrusted honest new.workers (turns new) → told ≡ said
 
-module _ (honest : Type 0) (script : List Line) (tables : List LoadedTable) (old : Ledger) (taken : ℕ) (line : Line) (said : Block) (later : List (Turn Query)) (new : Ledger)
+module _ (honest : Type 0) (script : List Line) (tables : List LoadedTable) (old : BoardModel) (taken : ℕ) (line : Line) (said : Block) (later : List (Turn Query)) (new : BoardModel)
     (s : IsSound (inputs_in script tables) old taken) (e : slice_get script taken ≡ Some line) (t : TellsLine honest script tables old line said later new) where
   rises : RisesFrom line.number (drop (taken + 1) script)
   rises = let h = subst (RisesFrom (now old).line) (rest_more script taken line e) s.later in h.1
@@ -78,7 +78,7 @@ module _ (honest : Type 0) (script : List Line) (tables : List LoadedTable) (old
 
 -- ---- a command
 
-module _ (honest : Type 0) (script : List Line) (tables : List LoadedTable) (old : Ledger) (taken : ℕ) (line : Line) (said : Block) (new : Ledger)
+module _ (honest : Type 0) (script : List Line) (tables : List LoadedTable) (old : BoardModel) (taken : ℕ) (line : Line) (said : Block) (new : BoardModel)
     (rise : RisesFrom 0 script) (e : slice_get script taken ≡ Some line) (idle : IsIdle (now old)) (c : IsCommand tables old line said new) where
   pub tells-command : TellsLine honest script tables old line said (Takes line.number (command_of served (rows_at tables line.number) line.verb) ∷ []) new
   tells-command =

@@ -10,7 +10,7 @@ use Rattle.outside.specs.Hands.{Call, Fail, fault_for, is_fail_of, with_call}
 use Rattle.outside.specs.declared.hand.HandFault.{HandFault}
 use Rattle.run_history.specs.Commands.{Turn}
 use Rattle.run_history.specs.Commands.Turn.{Takes, Claims, StepEnds, QueryTakes, QueryEnds}
-use Rattle.run_history.specs.Cubes.{Cube}
+use Rattle.run_history.specs.Cubes.{CubeSemantics}
 use Rattle.run_history.specs.Steps.{world}
 use Rattle.run_history.specs.World.{Submitted, job_of, next_task}
 use Rattle.run_history.specs.declared.event.Event.{Event}
@@ -38,7 +38,7 @@ calls-more (Some before) calls call = ap Some (append_assoc before calls (call �
 count_append : {X : Type 0} (test : X → Bool) (xs ys : List X) → count_by test (xs ++ ys) ≡ count_by test xs + count_by test ys
 count_append test xs ys = sum_by-append (λ x. cond (test x) 1 0) xs ys
 
-module _ {Query Answer : Type 0} (cube : Cube Query Answer) (honest : Type 0) (workers : ℕ) where
+module _ {Query Answer : Type 0} (cube : CubeSemantics Query Answer) (honest : Type 0) (workers : ℕ) where
   task_later : (turns later : List (Turn Query)) (call : Call) → IsTaskOf cube workers turns call → IsTaskOf cube workers (turns ++ later) call
   task_later turns later call t = record {
     before = t.before;

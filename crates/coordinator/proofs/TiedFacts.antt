@@ -5,7 +5,7 @@ use Rattle.std.proofs.lemmas.List.{map-append}
 use Rattle.std.proofs.lemmas.List.Elements.{All-append, All-from_recursion, All-nil, All-weaker}
 use Rattle.fixed_cube.specs.Cube.{fixed}
 use Rattle.fixed_state.specs.Ends.{Answer, IsJudged, IsOutcomeOf, outcome_of, stale_outcome}
-use Rattle.job_board.specs.Ledger.{IsAdded, IsCountedAs, IsRecordedAs, IsSame, Ledger, task_of, turns}
+use Rattle.job_board.specs.BoardModel.{IsAdded, IsCountedAs, IsRecordedAs, IsSame, BoardModel, task_of, turns}
 use Rattle.job_board.specs.declared.answers.Work.{Work}
 use Rattle.job_machine.specs.Job.{is_current}
 use Rattle.outside.specs.Hands.{AnswersFails, Call, Fail, call_of, fault_for, with_call}
@@ -125,7 +125,7 @@ all_grown P old new later e h k =
 
 module _ {H : Type 0} (honest : Type 0) (fails : H → Option (List Fail)) (calls : H → Option (List Call)) (base : H) where
   -- turns that end no step
-  pub tied-silent : (hand : H) (old new : Ledger) (later : List (Turn Ask)) → IsGrown old later new → AllByRecursion EndsNoStep later → IsTied honest fails calls base hand old
+  pub tied-silent : (hand : H) (old new : BoardModel) (later : List (Turn Ask)) → IsGrown old later new → AllByRecursion EndsNoStep later → IsTied honest fails calls base hand old
       → IsTied honest fails calls base hand new
   tied-silent hand old new later g silent t = record {
     fails_same = t.fails_same;
@@ -140,7 +140,7 @@ module _ {H : Type 0} (honest : Type 0) (fails : H → Option (List Fail)) (call
   }
 
   -- a step from its claim to its end
-  module _ (hand hand' : H) (old mid new : Ledger) (work : Work) (o : Outcome) (claimed : IsClaimed honest old work mid) (ended : IsAdded mid (StepEnds work.job work.attempt o) new)
+  module _ (hand hand' : H) (old mid new : BoardModel) (work : Work) (o : Outcome) (claimed : IsClaimed honest old work mid) (ended : IsAdded mid (StepEnds work.job work.attempt o) new)
       (ran : HasRun honest fails calls work hand hand' o) (t : IsTied honest fails calls base hand old) where
     abbrev call : Call
     call = call_of work.job work.attempt work.task.items
@@ -180,15 +180,15 @@ module _ {H : Type 0} (honest : Type 0) (fails : H → Option (List Fail)) (call
     ]
 
   -- the same turns
-  pub tied-same : (hand : H) (old new : Ledger) → IsSame old new → IsTied honest fails calls base hand old → IsTied honest fails calls base hand new
+  pub tied-same : (hand : H) (old new : BoardModel) → IsSame old new → IsTied honest fails calls base hand old → IsTied honest fails calls base hand new
   tied-same hand old new same t = tied-silent hand old new [] (grown-same old new same) tt t
 
   -- a claim alone
-  pub tied-claim : (hand : H) (old new : Ledger) (job attempt : ℕ) → IsAdded old (Claims job attempt) new → IsTied honest fails calls base hand old → IsTied honest fails calls base hand new
+  pub tied-claim : (hand : H) (old new : BoardModel) (job attempt : ℕ) → IsAdded old (Claims job attempt) new → IsTied honest fails calls base hand old → IsTied honest fails calls base hand new
   tied-claim hand old new job attempt added t = tied-silent hand old new (Claims job attempt ∷ []) (grown-added old (Claims job attempt) new added) (tt, tt) t
 
   -- a line that was taken, or some turns of it
-  pub tied-taken : (hand : H) (tables : List LoadedTable) (old : Ledger) (line : Line) (said : Block) (new : Ledger) → IsTaken honest tables old line said new
+  pub tied-taken : (hand : H) (tables : List LoadedTable) (old : BoardModel) (line : Line) (said : Block) (new : BoardModel) → IsTaken honest tables old line said new
       → IsTied honest fails calls base hand old → IsTied honest fails calls base hand new
   tied-taken hand tables old line said new (inl c) t =
       tied-silent hand old new (Takes line.number (command_of served (rows_at tables line.number) line.verb) ∷ [])
@@ -202,7 +202,7 @@ module _ {H : Type 0} (honest : Type 0) (fails : H → Option (List Fail)) (call
   asked_silent line session (suc (suc zero)) = (tt, (tt, tt))
   asked_silent line session (suc (suc (suc n))) = (tt, (tt, tt))
 
-  pub tied-part : (hand : H) (old : Ledger) (line : Line) (new : Ledger) → IsTakenPart old line new → IsTied honest fails calls base hand old → IsTied honest fails calls base hand new
+  pub tied-part : (hand : H) (old : BoardModel) (line : Line) (new : BoardModel) → IsTakenPart old line new → IsTied honest fails calls base hand old → IsTied honest fails calls base hand new
   tied-part hand old line new (inl g) t = tied-silent hand old new [] g tt t
   tied-part hand old line new (inr q) t = tied-silent hand old new (take q.count (asked_turns line.number q.session)) q.grown (asked_silent line.number q.session q.count) t
 
@@ -217,7 +217,7 @@ module _ {H : Type 0} (honest : Type 0) (fails : H → Option (List Fail)) (call
     are_calls = calls-start fixed honest 1;
   }
 
-  pub tied-start : (board : Ledger) → board ≡ empty_board 1 → IsTied honest fails calls base base board
+  pub tied-start : (board : BoardModel) → board ≡ empty_board 1 → IsTied honest fails calls base base board
   tied-start board b = subst (IsTied honest fails calls base base) (sym b) tied_empty
 
 -- ---- the whole run
@@ -229,7 +229,7 @@ pub all-stand : (told : List Fail) (history : List Event) → All (IsEndBy told)
 all-stand told history h = All-weaker (IsEndBy told) (StandsAmong told) (stands-among told) history h
 
 -- the calls of a board's turns are those of its events over the inputs
-pub calls-over : (honest : Type 0) (inputs inputs' : Inputs) → inputs ≡ inputs' → (board : Ledger) (history : List Event) (calls : List Call) → IsFront inputs board
+pub calls-over : (honest : Type 0) (inputs inputs' : Inputs) → inputs ≡ inputs' → (board : BoardModel) (history : List Event) (calls : List Call) → IsFront inputs board
     → history ≡ map event_of (turns board) → AreCallsOf fixed honest board.workers (turns board) calls → AreCallsOf fixed honest inputs'.workers (turns_of served inputs' history) calls
 calls-over honest inputs inputs' same board history calls front e c =
     subst (λ (i : Inputs). AreCallsOf fixed honest i.workers (turns_of served i history) calls) same

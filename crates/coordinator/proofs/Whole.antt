@@ -3,7 +3,7 @@ use Rattle.std.proofs.Common.{◌≡◌, ◌≢◌, ℕ, Bool, true, ◌&&◌, �
 use Rattle.std.specs.Io.KnownBytes.{append_known}
 use Rattle.std.proofs.lemmas.List.{length-map, length-take-le}
 use Rattle.fixed_cube.specs.Cube.{fixed}
-use Rattle.job_board.specs.Ledger.{Ledger, now, turns}
+use Rattle.job_board.specs.BoardModel.{BoardModel, now, turns}
 use Rattle.outside.specs.Written.{AppendsPart}
 use Rattle.plain_answer.specs.declared.ask.Ask.{Ask as Query}
 use Rattle.range_list.specs.Ranges.{IsApart}
@@ -31,7 +31,7 @@ has_steps kind = omega arith
 
 -- ---- the events of a board, over its inputs
 
-module _ (inputs : Inputs) (board : Ledger) (f : IsFront inputs board) where
+module _ (inputs : Inputs) (board : BoardModel) (f : IsFront inputs board) where
   pub world-is : world_of served inputs (map event_of (turns board)) ≡ now board
   world-is = ap (world fixed inputs.workers) f.named ∙ ap (λ (n : ℕ). world fixed n (turns board)) (sym f.workers)
 
@@ -118,7 +118,7 @@ module _ (inputs : Inputs) (board : Ledger) (f : IsFront inputs board) where
 -- ---- the whole run
 
 -- the run of a board of which all this is known
-pub run-over : (honest : Type 0) (inputs : Inputs) (board : Ledger) (taken status : ℕ) (history : List Event) (before written : Option (List ℕ)) → IsFront inputs board
+pub run-over : (honest : Type 0) (inputs : Inputs) (board : BoardModel) (taken status : ℕ) (history : List Event) (before written : Option (List ℕ)) → IsFront inputs board
     → history ≡ map event_of (turns board) → histories.IsLegal fixed board.workers (turns board) → histories.HasFreshAnswers fixed board.workers (turns board)
     → (status ≡ 0 → IsSound inputs board taken) → (status ≡ 0 → is_done inputs.script taken (now board) ≡ true)
     → (status ≡ 0 → AreTrusted honest board.workers (turns board) → written ≡ append_known before (transcript served inputs (map event_of (turns board))))

@@ -5,7 +5,7 @@ use Rattle.std.specs.Prelude.{IfOk, IfSome}
 use Rattle.fixed_cube.specs.Cube.{fixed}
 use Rattle.fixed_cube.specs.Tasks.{IsTask}
 use Rattle.fixed_state.specs.Ends.{Answer, kept_of, products_after}
-use Rattle.job_board.specs.Ledger.{IsAdded, IsRecordedAs, IsSame, Ledger, ended_of, now, task_of, turns}
+use Rattle.job_board.specs.BoardModel.{IsAdded, IsRecordedAs, IsSame, BoardModel, ended_of, now, task_of, turns}
 use Rattle.job_board.specs.declared.answers.Work.{Work}
 use Rattle.plain_answer.specs.declared.ask.Ask.{Ask as Query}
 use Rattle.run_history.specs.Commands.{Turn}
@@ -25,15 +25,15 @@ use Rattle.coordinator.proofs.Idle.{idle-end, line-claim, line-end, stepping-cla
 use Rattle.coordinator.proofs.NextTasks.{is-task, tasks-claim, tasks-end}
 
 -- no turn
-pub worked-same : (old new : Ledger) → IsSame old new → IsWorked old new
+pub worked-same : (old new : BoardModel) → IsSame old new → IsWorked old new
 worked-same old new s = record { later = []; steps = tt; grown = grown-same old new s }
 
 -- a claim alone
-pub worked-claim : (old new : Ledger) (job attempt : ℕ) → IsAdded old (Claims job attempt) new → IsWorked old new
+pub worked-claim : (old new : BoardModel) (job attempt : ℕ) → IsAdded old (Claims job attempt) new → IsWorked old new
 worked-claim old new job attempt a = record { later = Claims job attempt ∷ []; steps = (tt, tt); grown = grown-added old (Claims job attempt) new a }
 
 -- a claim with its end
-pub worked-step : (old mid new : Ledger) (job attempt : ℕ) (outcome : Outcome) → IsAdded old (Claims job attempt) mid → IsAdded mid (StepEnds job attempt outcome) new → IsWorked old new
+pub worked-step : (old mid new : BoardModel) (job attempt : ℕ) (outcome : Outcome) → IsAdded old (Claims job attempt) mid → IsAdded mid (StepEnds job attempt outcome) new → IsWorked old new
 worked-step old mid new job attempt outcome a e = record {
   later = Claims job attempt ∷ StepEnds job attempt outcome ∷ [];
   steps = (tt, (tt, tt));
@@ -42,7 +42,7 @@ worked-step old mid new job attempt outcome a e = record {
 }
 
 -- after calls that leave the board as it is
-pub worked-then : (old mid new : Ledger) → IsWorked old mid → IsSame mid new → IsWorked old new
+pub worked-then : (old mid new : BoardModel) → IsWorked old mid → IsSame mid new → IsWorked old new
 worked-then old mid new w s = record {
   later = w.later;
   steps = w.steps;
@@ -50,14 +50,14 @@ worked-then old mid new w s = record {
 }
 
 -- the world after a claim and after an end
-pub now-claimed : (old new : Ledger) (job attempt : ℕ) → IsAdded old (Claims job attempt) new → now new ≡ step fixed (now old) (Claims job attempt)
+pub now-claimed : (old new : BoardModel) (job attempt : ℕ) → IsAdded old (Claims job attempt) new → now new ≡ step fixed (now old) (Claims job attempt)
 now-claimed old new job attempt a = now-grown old new (Claims job attempt ∷ []) (grown-added old (Claims job attempt) new a)
 
-pub stepping-added : (old new : Ledger) (job attempt : ℕ) → IsAdded old (Claims job attempt) new → IsNextAttempt (job_of (now old) job) attempt → IsIdle (now old) → IsStepping (now new) job attempt
+pub stepping-added : (old new : BoardModel) (job attempt : ℕ) → IsAdded old (Claims job attempt) new → IsNextAttempt (job_of (now old) job) attempt → IsIdle (now old) → IsStepping (now new) job attempt
 stepping-added old new job attempt a n i =
     subst (λ (w : World Query). IsStepping w job attempt) (sym (now-claimed old new job attempt a)) (stepping-claim (now old) job attempt n i)
 
-pub idle-ended : (old new : Ledger) (job attempt : ℕ) (outcome : Outcome) → IsAdded old (StepEnds job attempt outcome) new → IsStepping (now old) job attempt → IsIdle (now new)
+pub idle-ended : (old new : BoardModel) (job attempt : ℕ) (outcome : Outcome) → IsAdded old (StepEnds job attempt outcome) new → IsStepping (now old) job attempt → IsIdle (now new)
 idle-ended old new job attempt outcome e s =
     subst IsIdle (sym (now-grown old new (StepEnds job attempt outcome ∷ []) (grown-added old (StepEnds job attempt outcome) new e)))
     (idle-end (now old) job attempt outcome s)
@@ -70,7 +70,7 @@ line-steps w (Takes line command ∷ later) h = absurd h.0
 line-steps w (QueryTakes line ∷ later) h = absurd h.0
 line-steps w (QueryEnds line out ∷ later) h = absurd h.0
 
-pub sound-worked : (inputs : Inputs) (old new : Ledger) (taken : ℕ) → IsWorked old new → IsIdle (now new) → HasTasksIn new → IsSound inputs old taken → IsSound inputs new taken
+pub sound-worked : (inputs : Inputs) (old new : BoardModel) (taken : ℕ) → IsWorked old new → IsIdle (now new) → HasTasksIn new → IsSound inputs old taken → IsSound inputs new taken
 sound-worked inputs old new taken w i tasks s =
     let line : (now new).line ≡ (now old).line = ap (λ (x : World Query). x.line) (now-grown old new w.later w.grown) ∙ line-steps (now old) w.later w.steps in
     record {
@@ -93,16 +93,16 @@ no_first (job ∷ queue) e = cc
 -- ---- what was claimed
 
 -- the jobs have their next tasks after calls that leave the board as it is, after a claim and after an end
-pub tasks-same : (old new : Ledger) → IsSame old new → HasTasksIn old → HasTasksIn new
+pub tasks-same : (old new : BoardModel) → IsSame old new → HasTasksIn old → HasTasksIn new
 tasks-same old new s h =
     subst (HasTasks (now new)) (sym s.products) (subst (λ (w : World Query). HasTasks w old.products) (sym (now-same old new s)) h)
 
-pub tasks-claimed : (old new : Ledger) (job attempt : ℕ) → IsAdded old (Claims job attempt) new → new.products ≡ old.products → HasTasksIn old → HasTasksIn new
+pub tasks-claimed : (old new : BoardModel) (job attempt : ℕ) → IsAdded old (Claims job attempt) new → new.products ≡ old.products → HasTasksIn old → HasTasksIn new
 tasks-claimed old new job attempt a p h =
     subst (HasTasks (now new)) (sym p)
     (subst (λ (w : World Query). HasTasks w old.products) (sym (now-claimed old new job attempt a)) (tasks-claim (now old) old.products h job attempt))
 
-pub tasks-ended : (old new : Ledger) (job attempt : ℕ) (answer : Answer) (o : Outcome) → IsAdded old (StepEnds job attempt o) new
+pub tasks-ended : (old new : BoardModel) (job attempt : ℕ) (answer : Answer) (o : Outcome) → IsAdded old (StepEnds job attempt o) new
     → new.products ≡ products_after (ended_of (job_of (now old) job) attempt o) job answer old.products
     → IsOfBytes answer → IsRecordedAs (now old) (job_of (now old) job) (kept_of old.products job) attempt answer o → HasTasksIn old → HasTasksIn new
 tasks-ended old new job attempt answer o a p b r h =
@@ -115,7 +115,7 @@ job_there : (found : Option Submitted) (attempt : ℕ) → IsNextAttempt found a
 job_there None attempt h = absurd h
 job_there (Some s) attempt h = (s, refl)
 
-module _ (honest : Type 0) (old mid new : Ledger) (same : IsSame old mid) (idle : IsIdle (now old)) (tasks : HasTasksIn old) where
+module _ (honest : Type 0) (old mid new : BoardModel) (same : IsSame old mid) (idle : IsIdle (now old)) (tasks : HasTasksIn old) where
   claimed-work : (work : Work) → IsAdded mid (Claims work.job work.attempt) new → new.products ≡ mid.products → IsNextAttempt (job_of (now mid) work.job) work.attempt
       → ((s : Submitted) → job_of (now mid) work.job ≡ Some s → honest → work.task.items ≡ next_task fixed (now mid) s)
       → ((s : Submitted) → job_of (now mid) work.job ≡ Some s → work.task.items ≡ task_of (now mid) s (kept_of mid.products work.job)) → IsClaimed honest old work new

@@ -3,7 +3,7 @@ use Rattle.std.specs.Prelude.{◌≡◌, ◌<◌, ◌⊎◌, ℕ, [], Some}
 use Rattle.fixed_cube.specs.Answers.{by_first}
 use Rattle.fixed_cube.specs.Cube.{fixed}
 use Rattle.fixed_state.specs.Ready.{AreCellsOf}
-use Rattle.job_board.specs.Ledger.{next_query}
+use Rattle.job_board.specs.BoardModel.{next_query}
 use Rattle.job_board.specs.declared.answers.QueryWork.{QueryWork}
 use Rattle.plain_answer.specs.declared.ask.Ask.{Ask}
 use Rattle.run_history.specs.Commands.Turn.{QueryEnds}

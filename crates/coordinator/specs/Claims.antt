@@ -2,7 +2,7 @@
 use Rattle.std.specs.Prelude.{◌≡◌, ◌<◌, ◌≤◌, ◌∷◌, [], ℕ, List, Some, true}
 use Rattle.fixed_cube.specs.Cube.{fixed}
 use Rattle.fixed_cube.specs.Tasks.{IsTask}
-use Rattle.job_board.specs.Ledger.{IsAdded, Ledger, now}
+use Rattle.job_board.specs.BoardModel.{IsAdded, BoardModel, now}
 use Rattle.job_board.specs.declared.answers.Work.{Work}
 use Rattle.job_machine.specs.Job.{is_current}
 use Rattle.plain_answer.specs.declared.ask.Ask.{Ask}
@@ -30,7 +30,7 @@ pub record IsWorkOf (honest : Type 0) (w : World Ask) (work : Work) : Type 0 whe
   pub is_task : IsTask work.task.items
 
 -- a step was claimed, of a job that is there
-pub record IsClaimed (honest : Type 0) (old : Ledger) (work : Work) (new : Ledger) : Type 0 where
+pub record IsClaimed (honest : Type 0) (old : BoardModel) (work : Work) (new : BoardModel) : Type 0 where
   pub added : IsAdded old (Claims work.job work.attempt) new
   pub products : new.products ≡ old.products
   pub job : Submitted

@@ -6,7 +6,7 @@ use Rattle.std.specs.List.{AllByRecursion}
 use Rattle.std.specs.Str.{bytes_eq}
 use Rattle.fixed_cube.specs.Answers.{by_first}
 use Rattle.fixed_cube.specs.Cube.{fixed}
-use Rattle.job_board.specs.Ledger.{Ledger, now, turns}
+use Rattle.job_board.specs.BoardModel.{BoardModel, now, turns}
 use Rattle.outside.specs.Rises.{Risen}
 use Rattle.outside.specs.Written.{AppendsPart}
 use Rattle.outside.specs.declared.stopper.Request.{Request}
@@ -78,7 +78,7 @@ is_query said = false
 -- ---- turns
 
 -- these turns more
-pub record IsGrown (old : Ledger) (later : List (Turn Ask)) (new : Ledger) : Type 0 where
+pub record IsGrown (old : BoardModel) (later : List (Turn Ask)) (new : BoardModel) : Type 0 where
   pub turns : turns new ≡ turns old ++ later
   pub workers : new.workers ≡ old.workers
 
@@ -95,7 +95,7 @@ IsOfStep (QueryTakes line) = ⊥
 IsOfStep (QueryEnds line out) = ⊥
 
 -- claims and ends of steps more
-pub record IsWorked (old new : Ledger) : Type 0 where
+pub record IsWorked (old new : BoardModel) : Type 0 where
   pub later : List (Turn Ask)
   pub steps : AllByRecursion IsOfStep later
   pub grown : IsGrown old later new
@@ -116,16 +116,16 @@ pub record IsIdle (w : World Ask) : Type 0 where
   pub landed : AreLanded w.jobs
 
 -- the entries of the turns of a board
-abbrev pub entries_in : List Line → Ledger → List Entry
+abbrev pub entries_in : List Line → BoardModel → List Entry
 entries_in script board = entries_along served script (start board.workers (length fixed.tables)) [] (turns board)
 
 -- the attempts that its commands found in flight
-abbrev pub stops_in : Ledger → List Request
+abbrev pub stops_in : BoardModel → List Request
 stops_in board = stops_along fixed (start board.workers (length fixed.tables)) (turns board)
 
 -- the board's turns are those of its events over the inputs, their commands are the first ones of the script, and none of them found an
 -- attempt in flight
-pub record IsFront (inputs : Inputs) (board : Ledger) : Type 0 where
+pub record IsFront (inputs : Inputs) (board : BoardModel) : Type 0 where
   pub workers : board.workers ≡ inputs.workers
   pub named : turns_of served inputs (map event_of (turns board)) ≡ turns board
   pub later : List ℕ
@@ -133,7 +133,7 @@ pub record IsFront (inputs : Inputs) (board : Ledger) : Type 0 where
   pub no_stops : stops_in board ≡ []
 
 -- so many commands of the script were taken, and all their blocks are told; each job has its next task
-pub record IsSound (inputs : Inputs) (board : Ledger) (taken : ℕ) : Type 0 where
+pub record IsSound (inputs : Inputs) (board : BoardModel) (taken : ℕ) : Type 0 where
   pub within : taken ≤ length inputs.script
   pub workers : board.workers ≡ inputs.workers
   pub named : turns_of served inputs (map event_of (turns board)) ≡ turns board
@@ -145,16 +145,16 @@ pub record IsSound (inputs : Inputs) (board : Ledger) (taken : ℕ) : Type 0 whe
   pub tasks : HasTasksIn board
 
 -- where a run is trusted, all that is told was written after these bytes; or a part of it from the front
-abbrev pub HasWritten : Type 0 → List Line → Ledger → Option (List ℕ) → Option (List ℕ) → Type 0
+abbrev pub HasWritten : Type 0 → List Line → BoardModel → Option (List ℕ) → Option (List ℕ) → Type 0
 HasWritten honest script board before written =
     AreTrusted honest board.workers (turns board) → written ≡ append_known before (told_text (entries_in script board))
 
-abbrev pub HasWrittenPart : Type 0 → List Line → Ledger → Option (List ℕ) → Option (List ℕ) → Type 0
+abbrev pub HasWrittenPart : Type 0 → List Line → BoardModel → Option (List ℕ) → Option (List ℕ) → Type 0
 HasWrittenPart honest script board before written =
     AreTrusted honest board.workers (turns board) → AppendsPart before written (told_text (entries_in script board))
 
 -- the hands' counts cover the ends of the turns
-pub record IsCounted {H : Type 0} (runs faults : H → ℕ) (base hands : List H) (board : Ledger) : Type 0 where
+pub record IsCounted {H : Type 0} (runs faults : H → ℕ) (base hands : List H) (board : BoardModel) : Type 0 where
   pub ran : Risen runs base hands (run_ends (map event_of (turns board)))
   pub failed : Risen faults base hands (fault_ends (map event_of (turns board)))
 

@@ -5,7 +5,7 @@ use Rattle.outside.specs.declared.stopper.Request.{Request}
 use Rattle.run_history.specs.Commands.{Command, Turn}
 use Rattle.run_history.specs.Commands.Command.{Load, Submit, Drop, Steer, Ask, Note}
 use Rattle.run_history.specs.Commands.Turn.{Takes, Claims, StepEnds, QueryTakes, QueryEnds}
-use Rattle.run_history.specs.Cubes.{Cube}
+use Rattle.run_history.specs.Cubes.{CubeSemantics}
 use Rattle.run_history.specs.Steps.{step}
 use Rattle.run_history.specs.World.{World, job_of, start}
 use Rattle.run_history.specs.declared.event.Event.{Event}
@@ -43,7 +43,7 @@ module _ {Query : Type 0} where
   stops_at w (QueryEnds line out) = []
 
   -- those of some turns, one after another
-  abbrev pub stops_along : {Answer : Type 0} → Cube Query Answer → World Query → List (Turn Query) → List Request
+  abbrev pub stops_along : {Answer : Type 0} → CubeSemantics Query Answer → World Query → List (Turn Query) → List Request
   stops_along cube w [] = []
   stops_along cube w (turn ∷ turns) = stops_at w turn ++ stops_along cube (step cube w turn) turns
 

@@ -1,6 +1,6 @@
 -- Lines that were taken.
 use Rattle.std.specs.Prelude.{◌≡◌, ◌⊎◌, ◌∷◌, ◌++◌, [], ℕ, List, Some, false, take}
-use Rattle.job_board.specs.Ledger.{IsAdded, Ledger, now}
+use Rattle.job_board.specs.BoardModel.{IsAdded, BoardModel, now}
 use Rattle.run_history.specs.Commands.Turn.{QueryEnds, Takes}
 use Rattle.run_history.specs.declared.event.QueryOut.{QueryOut}
 use Rattle.run_inputs.specs.declared.inputs.LoadedTable.{LoadedTable}
@@ -16,7 +16,7 @@ use Rattle.coordinator.specs.Served.{rows_at, served}
 use Rattle.coordinator.specs.Tasks.{FitsCommand, products_taken}
 
 -- the command of a line that asks for no query was taken, and this is its block
-pub record IsCommand (tables : List LoadedTable) (old : Ledger) (line : Line) (said : Block) (new : Ledger) : Type 0 where
+pub record IsCommand (tables : List LoadedTable) (old : BoardModel) (line : Line) (said : Block) (new : BoardModel) : Type 0 where
   pub no_query : is_query line.verb ≡ false
   pub added : IsAdded old (Takes line.number (command_of served (rows_at tables line.number) line.verb)) new
   pub fits : FitsCommand (command_of served (rows_at tables line.number) line.verb)
@@ -24,7 +24,7 @@ pub record IsCommand (tables : List LoadedTable) (old : Ledger) (line : Line) (s
   pub block : entry_of served (now old) line.number (Some line.verb) (command_of served (rows_at tables line.number) line.verb) ≡ Told line.number said
 
 -- the query of a line has its end, and this is its block
-pub record IsQuery (honest : Type 0) (old : Ledger) (line : Line) (said : Block) (new : Ledger) : Type 0 where
+pub record IsQuery (honest : Type 0) (old : BoardModel) (line : Line) (said : Block) (new : BoardModel) : Type 0 where
   pub session : ℕ
   pub text : List ℕ
   pub asks : line.verb ≡ verb.Query session text
@@ -33,11 +33,11 @@ pub record IsQuery (honest : Type 0) (old : Ledger) (line : Line) (said : Block)
   pub products : new.products ≡ old.products
   pub answer : IsAnswerOver honest (now old) out said
 
-abbrev pub IsTaken : Type 0 → List LoadedTable → Ledger → Line → Block → Ledger → Type 0
+abbrev pub IsTaken : Type 0 → List LoadedTable → BoardModel → Line → Block → BoardModel → Type 0
 IsTaken honest tables old line said new = IsCommand tables old line said new ⊎ IsQuery honest old line said new
 
 -- some turns of a query before its end
-pub record IsPartOfQuery (old : Ledger) (line : Line) (new : Ledger) : Type 0 where
+pub record IsPartOfQuery (old : BoardModel) (line : Line) (new : BoardModel) : Type 0 where
   pub session : ℕ
   pub text : List ℕ
   pub asks : line.verb ≡ verb.Query session text
@@ -45,5 +45,5 @@ pub record IsPartOfQuery (old : Ledger) (line : Line) (new : Ledger) : Type 0 wh
   pub grown : IsGrown old (take count (asked_turns line.number session)) new
 
 -- the line was not taken, or its query has no end
-abbrev pub IsTakenPart : Ledger → Line → Ledger → Type 0
+abbrev pub IsTakenPart : BoardModel → Line → BoardModel → Type 0
 IsTakenPart old line new = IsGrown old [] new ⊎ IsPartOfQuery old line new

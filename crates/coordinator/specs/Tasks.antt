@@ -7,7 +7,7 @@ use Rattle.fixed_cube.specs.Cube.{FitsSnapshot, fixed, task_after}
 use Rattle.fixed_cube.specs.Tasks.{IsTask}
 use Rattle.fixed_state.specs.Ends.{Answer}
 use Rattle.fixed_state.specs.Kept.{IsLoaded, first_snapshot}
-use Rattle.job_board.specs.Ledger.{Ledger, now}
+use Rattle.job_board.specs.BoardModel.{BoardModel, now}
 use Rattle.plain_answer.specs.declared.ask.Ask.{Ask as Query}
 use Rattle.run_history.specs.Commands.{Command}
 use Rattle.run_history.specs.Commands.Command.{Load, Submit, Drop, Steer, Ask, Note}
@@ -34,7 +34,7 @@ pub record HasTasks (w : World Query) (products : List (List (List ℕ))) : Type
   pub loaded : IsLoaded w.loaded
   pub jobs : EachFits HasTask w.jobs products
 
-abbrev pub HasTasksIn : Ledger → Type 0
+abbrev pub HasTasksIn : BoardModel → Type 0
 HasTasksIn board = HasTasks (now board) board.products
 
 -- a command's rows and range may stand in tasks

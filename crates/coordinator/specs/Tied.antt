@@ -1,7 +1,7 @@
 -- What the coordinator keeps of the hand between two turns.
 use Rattle.std.specs.Prelude.{◌≡◌, ◌≢◌, ◌⊎◌, ◌++◌, ⊤, List, All, Option, Some, map, option_map}
 use Rattle.fixed_cube.specs.Cube.{fixed}
-use Rattle.job_board.specs.Ledger.{Ledger, turns}
+use Rattle.job_board.specs.BoardModel.{BoardModel, turns}
 use Rattle.job_board.specs.declared.answers.Work.{Work}
 use Rattle.outside.specs.Hands.{Call, Fail, call_of, fault_for, with_call}
 use Rattle.run_history.specs.Commands.{Turn, event_of}
@@ -27,7 +27,7 @@ pub record HasRun {H : Type 0} (honest : Type 0) (fails : H → Option (List Fai
 
 -- the turns of a board are tied to the hand: the ends of steps follow the faults that it tells, its calls are those of the ends, and where
 -- it is honest no product is Damaged
-pub record IsTied {H : Type 0} (honest : Type 0) (fails : H → Option (List Fail)) (calls : H → Option (List Call)) (base hand : H) (board : Ledger) : Type 0 where
+pub record IsTied {H : Type 0} (honest : Type 0) (fails : H → Option (List Fail)) (calls : H → Option (List Call)) (base hand : H) (board : BoardModel) : Type 0 where
   pub fails_same : fails hand ≡ fails base
   pub follows : (told : List Fail) → fails base ≡ Some told → All (IsEndBy told) (map event_of (turns board))
   pub sound : honest → All IsUndamaged (map event_of (turns board))

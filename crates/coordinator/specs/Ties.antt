@@ -5,7 +5,7 @@ use Rattle.outside.specs.Hands.{Call, Fail, fault_for}
 use Rattle.outside.specs.declared.hand.HandFault.{HandFault}
 use Rattle.run_history.specs.Commands.{Turn}
 use Rattle.run_history.specs.Commands.Turn.{Takes, Claims, StepEnds, QueryTakes, QueryEnds}
-use Rattle.run_history.specs.Cubes.{Cube}
+use Rattle.run_history.specs.Cubes.{CubeSemantics}
 use Rattle.run_history.specs.Steps.{world}
 use Rattle.run_history.specs.World.{Submitted, job_of, next_task}
 use Rattle.run_history.specs.declared.event.Event.{Event}
@@ -83,7 +83,7 @@ module _ {Query : Type 0} where
   answered_ends job attempt turns = count_by (is_end_of is_no_memory job attempt) turns
 
 -- the task of a call is that of its job's next step in the world before the claim of its attempt
-pub record IsTaskOf {Query Answer : Type 0} (cube : Cube Query Answer) (workers : ℕ) (turns : List (Turn Query)) (call : Call) : Type 0 where
+pub record IsTaskOf {Query Answer : Type 0} (cube : CubeSemantics Query Answer) (workers : ℕ) (turns : List (Turn Query)) (call : Call) : Type 0 where
   pub before : List (Turn Query)
   pub later : List (Turn Query)
   pub claimed : turns ≡ before ++ Claims call.job call.attempt ∷ later
@@ -93,7 +93,7 @@ pub record IsTaskOf {Query Answer : Type 0} (cube : Cube Query Answer) (workers 
 
 -- these are the calls of the ends of steps: one at most for each, and one where its outcome isn't Memory; where hands are honest, each with
 -- the task of its step
-pub record AreCallsOf {Query Answer : Type 0} (cube : Cube Query Answer) (honest : Type 0) (workers : ℕ) (turns : List (Turn Query)) (calls : List Call) : Type 0 where
+pub record AreCallsOf {Query Answer : Type 0} (cube : CubeSemantics Query Answer) (honest : Type 0) (workers : ℕ) (turns : List (Turn Query)) (calls : List Call) : Type 0 where
   pub at_most : (job attempt : ℕ) → calls_of job attempt calls ≤ ends_of job attempt turns
   pub at_least : (job attempt : ℕ) → answered_ends job attempt turns ≤ calls_of job attempt calls
   pub tasks : honest → All (IsTaskOf cube workers turns) calls

@@ -4,7 +4,7 @@ ghost use Rattle.std.specs.Prelude.{◌≡◌, ◌<◌, ◌++◌, ◌∷◌, [],
 ghost use Rattle.std.specs.Arc.{arc_value};
 ghost use Rattle.fixed_cube.specs.Columns.{fact_columns, row_limit};
 ghost use Rattle.fixed_cube.specs.Cube.{fixed};
-ghost use Rattle.job_board.specs.Ledger.{IsAdded, now};
+ghost use Rattle.job_board.specs.BoardModel.{IsAdded, now};
 ghost use Rattle.job_machine.specs.declared.state.JobKind.TheVariants.{Build};
 ghost use Rattle.run_history.specs.Commands.{Command as command};
 ghost use Rattle.run_history.specs.Commands.Turn.{Takes};
@@ -129,7 +129,7 @@ fn build<H: Hand<SmallWork> + Drop>(
 
 // A command on one job. Where it stops an attempt in flight, that attempt is asked to stop; whether it was changes nothing. With one worker
 // no attempt is in flight where a command is taken, and so none is asked.
-fn steer<H: Hand<SmallWork> + Drop, P: Stopper>(
+fn control_job<H: Hand<SmallWork> + Drop, P: Stopper>(
     alloc: Global,
     board: &mut Board<H>,
     stopper: &mut P,
@@ -273,9 +273,16 @@ pub fn take_command<H: Hand<SmallWork> + Drop, P: Stopper>(
             None => unreachable!(),
         },
         Verb::Build(range) => build(board, number, *range),
-        Verb::Pause(job) => Ok(steer(alloc, board, stopper, number, Control::Pause, *job)),
-        Verb::Resume(job) => Ok(steer(alloc, board, stopper, number, Control::Resume, *job)),
-        Verb::Discard(job) => Ok(steer(alloc, board, stopper, number, Control::Discard, *job)),
+        Verb::Pause(job) => Ok(control_job(alloc, board, stopper, number, Control::Pause, *job)),
+        Verb::Resume(job) => Ok(control_job(alloc, board, stopper, number, Control::Resume, *job)),
+        Verb::Discard(job) => Ok(control_job(
+            alloc,
+            board,
+            stopper,
+            number,
+            Control::Discard,
+            *job,
+        )),
         Verb::AwaitJob(job) => Ok(await_job(board, number, *job)),
         Verb::AwaitJobs => Ok(await_jobs(board, number)),
         Verb::AwaitQueries => Ok(await_queries(board, number)),

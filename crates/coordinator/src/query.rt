@@ -2,7 +2,7 @@
 
 ghost use Rattle.std.specs.Prelude.{◌≡◌, ◌<◌, ◌++◌, ◌∷◌, [], ℕ, IfOk, OnErr, OnOk, take};
 ghost use Rattle.fixed_cube.specs.Answers.{by_first};
-ghost use Rattle.job_board.specs.Ledger.{IsAdded, IsSame, now};
+ghost use Rattle.job_board.specs.BoardModel.{IsAdded, IsSame, now};
 ghost use Rattle.run_history.specs.Commands.{Command as command};
 ghost use Rattle.run_history.specs.Commands.Turn.{QueryEnds, QueryTakes, Takes};
 ghost use Rattle.run_history.specs.declared.event.QueryOut.{QueryOut};

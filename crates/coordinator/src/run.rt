@@ -4,7 +4,7 @@ ghost use denote.Param.Send.{IsSync};
 ghost use Rattle.std.specs.Prelude.{◌≡◌, ◌≢◌, ◌≤◌, ◌∷◌, ◌++◌, [], ℕ, All, IfErr, IfOk, IsErrOf, List, OnErr, OnOk, Option, Some, length, map, option_map, true};
 ghost use Rattle.std.specs.Io.KnownBytes.{append_known};
 ghost use Rattle.fixed_cube.specs.Cube.{fixed};
-ghost use Rattle.job_board.specs.Ledger.{now, turns};
+ghost use Rattle.job_board.specs.BoardModel.{now, turns};
 ghost use Rattle.outside.specs.Counts.{Rose};
 ghost use Rattle.outside.specs.Hands.{Call, Fail};
 ghost use Rattle.outside.specs.Rises.{Risen};

@@ -3,7 +3,7 @@
 ghost use denote.Param.Send.{IsSync};
 ghost use Rattle.std.specs.Prelude.{◌≡◌, ◌∷◌, [], ℕ, List, IfOk, IfSome, None, Ok, OnErr, OnOk, false};
 ghost use Rattle.byte_frame.specs.Exact.{IsBytes};
-ghost use Rattle.job_board.specs.Ledger.{IsAdded, IsSame, now};
+ghost use Rattle.job_board.specs.BoardModel.{IsAdded, IsSame, now};
 ghost use Rattle.run_history.specs.Commands.Turn.{StepEnds};
 ghost use Rattle.run_history.specs.declared.event.Outcome.{Outcome};
 ghost use Rattle.coordinator.specs.Claims.{IsClaimed, IsWorkOf};

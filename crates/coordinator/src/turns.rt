@@ -3,7 +3,7 @@
 ghost use denote.Param.Send.{IsSync};
 ghost use Rattle.std.specs.Prelude.{◌≡◌, ◌≤◌, ◌<◌, ◌∷◌, [], ℕ, All, IfOk, IsErrOf, List, Ok, OnErr, OnOk, Option, Some, false, length, map, slice_get, true};
 ghost use Rattle.std.specs.Io.KnownBytes.{append_known};
-ghost use Rattle.job_board.specs.Ledger.{now, turns};
+ghost use Rattle.job_board.specs.BoardModel.{now, turns};
 ghost use Rattle.outside.specs.Counts.{Rose};
 ghost use Rattle.outside.specs.Written.{AppendsPart};
 ghost use Rattle.run_history.specs.Histories.{MayNote};

@@ -8,8 +8,8 @@ use Rattle.smallvec.specs.SmallVec.{SmallVec}
 use Rattle.agg_group.specs.Rules.{Rules, HasDimensions, AreDimensions, lists_of}
 use Rattle.agg_group.specs.Rules as agg
 use Rattle.agg_group.specs.Built.{AreOf}
-use Rattle.desc_shape.specs.declared.raw.RawName.{RawName}
-use Rattle.desc_shape.specs.declared.raw.RawGroup.{RawGroup}
+use Rattle.descriptor_json.specs.declared.raw.RawName.{RawName}
+use Rattle.descriptor_json.specs.declared.raw.RawGroup.{RawGroup}
 use Rattle.cube_desc.specs.Groups.{dimension_number, dimensions_of, rules_of}
 
 below : (b : Bool) (m n : ℕ) → b ≡ nat_lt m n → 0 < n → unwrap_or (cond b (Some m) None) 0 < n

@@ -2,9 +2,9 @@
 use Rattle.std.proofs.Common.{◌≡◌, List, [], ◌∷◌, ◌++◌, Option, Some, None, refl, sym, ap, ◌∙◌}
 use Rattle.std.specs.Prelude.{Result, Ok, Err}
 use Rattle.std.specs.Option.{option_or}
-use Rattle.desc_shape.specs.Places.{Place}
-use Rattle.desc_shape.specs.Bytes.{shaped}
-use Rattle.desc_shape.specs.declared.raw.RawDesc.{RawDesc}
+use Rattle.descriptor_json.specs.Places.{JsonPointer}
+use Rattle.descriptor_json.specs.Bytes.{shaped}
+use Rattle.descriptor_json.specs.declared.raw.RawDesc.{RawDesc}
 use Rattle.desc_checks.specs.Firsts.{first}
 use Rattle.desc_checks.specs.Faults.{each, faults}
 use Rattle.desc_checks.specs.declared.kind.DescFault.{DescFault}
@@ -15,11 +15,11 @@ use Rattle.cube_desc.specs.Groups.{bad_groups, too_many_cuboids}
 use Rattle.cube_desc.specs.Resolve.{cube_of}
 use Rattle.cube_desc.specs.Meaning.{all_faults, judged, described}
 
-some_each : (k : DescKind) (ps : List Place) (p : Place) → first ps ≡ Some p → first (each k ps) ≡ Some (record { kind = k; place = p })
+some_each : (k : DescKind) (ps : List JsonPointer) (p : JsonPointer) → first ps ≡ Some p → first (each k ps) ≡ Some (record { kind = k; place = p })
 some_each k [] p e = cc
 some_each k (q ∷ ps) p e = cc
 
-no_each : (k : DescKind) (ps : List Place) → first ps ≡ None → first (each k ps) ≡ None
+no_each : (k : DescKind) (ps : List JsonPointer) → first ps ≡ None → first (each k ps) ≡ None
 no_each k [] e = refl
 no_each k (q ∷ ps) e = cc
 
@@ -34,12 +34,12 @@ early r f e =
     let all : first (all_faults r) ≡ Some f = of_all r ∙ rw e refl in
     ap (judged r) all
 
-pub bad_group_first : (r : RawDesc) (p : Place) → first (faults r) ≡ None → first (bad_groups r) ≡ Some p → described (shaped r) ≡ Err (record { kind = kind.BadGroup; place = p })
+pub bad_group_first : (r : RawDesc) (p : JsonPointer) → first (faults r) ≡ None → first (bad_groups r) ≡ Some p → described (shaped r) ≡ Err (record { kind = kind.BadGroup; place = p })
 bad_group_first r p e b =
     let all : first (all_faults r) ≡ Some (record { kind = kind.BadGroup; place = p }) = of_all r ∙ rw (e, some_each kind.BadGroup (bad_groups r) p b) refl in
     ap (judged r) all
 
-pub too_many_first : (r : RawDesc) (p : Place) → first (faults r) ≡ None → first (bad_groups r) ≡ None → first (too_many_cuboids r) ≡ Some p
+pub too_many_first : (r : RawDesc) (p : JsonPointer) → first (faults r) ≡ None → first (bad_groups r) ≡ None → first (too_many_cuboids r) ≡ Some p
     → described (shaped r) ≡ Err (record { kind = kind.TooManyCuboids; place = p })
 too_many_first r p e b t =
     let all : first (all_faults r) ≡ Some (record { kind = kind.TooManyCuboids; place = p }) =

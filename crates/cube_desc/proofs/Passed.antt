@@ -3,8 +3,8 @@ use Rattle.std.proofs.Common.{◌≡◌, ℕ, ◌<◌, ◌≤◌, List, [], ◌�
 use Rattle.std.specs.Prelude.{◌&&◌, nat_le, nat_lt}
 use Rattle.std.specs.List.{flat_map}
 use Rattle.std.proofs.lemmas.Bool.{ltb-true, leb-true}
-use Rattle.desc_shape.specs.Places.{Place}
-use Rattle.desc_shape.specs.declared.raw.RawDesc.{RawDesc}
+use Rattle.descriptor_json.specs.Places.{JsonPointer}
+use Rattle.descriptor_json.specs.declared.raw.RawDesc.{RawDesc}
 use Rattle.desc_checks.specs.Firsts.{first, unless}
 use Rattle.desc_checks.specs.Limits.{table_too_many, too_many, is_some_up_to}
 use Rattle.desc_checks.specs.Names.{bad_names}
@@ -20,11 +20,11 @@ pub none_both : {A : Type 0} (xs ys : List A) → first (xs ++ ys) ≡ None → 
 none_both [] ys e = (refl, e)
 none_both (x ∷ xs) ys e = cc
 
-pub none_each : (k : DescKind) (ps : List Place) → first (each k ps) ≡ None → first ps ≡ None
+pub none_each : (k : DescKind) (ps : List JsonPointer) → first (each k ps) ≡ None → first ps ≡ None
 none_each k [] e = refl
 none_each k (p ∷ ps) e = cc
 
-pub none_unless : (b : Bool) (p : Place) → first (unless b p) ≡ None → b ≡ true
+pub none_unless : (b : Bool) (p : JsonPointer) → first (unless b p) ≡ None → b ≡ true
 none_unless true p e = refl
 none_unless false p e = cc
 
@@ -33,7 +33,7 @@ none_unless false p e = cc
 of_three : (a b c : List DescFault) → first (a ++ b ++ c) ≡ None → first a ≡ None
 of_three a b c h = (none_both a b (none_both (a ++ b) c h).0).0
 
-of_five : (a b c d e : List Place) → first (a ++ b ++ c ++ d ++ e) ≡ None → first d ≡ None
+of_five : (a b c d e : List JsonPointer) → first (a ++ b ++ c ++ d ++ e) ≡ None → first d ≡ None
 of_five a b c d e h = (none_both (a ++ b ++ c) d (none_both (a ++ b ++ c ++ d) e h).0).1
 
 pub both : (b c : Bool) → (b && c) ≡ true → (b ≡ true) × (c ≡ true)

@@ -13,15 +13,15 @@ use Rattle.cube_val.specs.declared.form.ColDesc.{ColDesc}
 use Rattle.cube_val.specs.declared.form.WideCol.{WideCol}
 use Rattle.cube_val.specs.declared.form.JoinStep.{JoinStep}
 use Rattle.measure_laws.specs.declared.measure.MeasureForm.TheVariants as form
-use Rattle.desc_shape.specs.Bytes.{Shaped, no_json, wrong_at, shaped, shape_of}
-use Rattle.desc_shape.specs.declared.raw.RawName.{RawName}
-use Rattle.desc_shape.specs.declared.raw.RawColumn.{RawColumn}
-use Rattle.desc_shape.specs.declared.raw.RawLookup.{RawLookup}
-use Rattle.desc_shape.specs.declared.raw.RawNamed.{RawNamed}
-use Rattle.desc_shape.specs.declared.raw.RawNamed.TheVariants.{Column, Derived}
-use Rattle.desc_shape.specs.declared.raw.RawDimension.{RawDimension}
-use Rattle.desc_shape.specs.declared.raw.RawMeasure.{RawMeasure}
-use Rattle.desc_shape.specs.declared.raw.RawDesc.{RawDesc}
+use Rattle.descriptor_json.specs.Bytes.{Shaped, no_json, wrong_at, shaped, shape_of}
+use Rattle.descriptor_json.specs.declared.raw.RawName.{RawName}
+use Rattle.descriptor_json.specs.declared.raw.RawColumn.{RawColumn}
+use Rattle.descriptor_json.specs.declared.raw.RawLookup.{RawLookup}
+use Rattle.descriptor_json.specs.declared.raw.RawNamed.{RawNamed}
+use Rattle.descriptor_json.specs.declared.raw.RawNamed.TheVariants.{Column, Derived}
+use Rattle.descriptor_json.specs.declared.raw.RawDimension.{RawDimension}
+use Rattle.descriptor_json.specs.declared.raw.RawMeasure.{RawMeasure}
+use Rattle.descriptor_json.specs.declared.raw.RawDesc.{RawDesc}
 use Rattle.desc_checks.specs.Firsts.{first, unless, along, is_among}
 use Rattle.desc_checks.specs.Groups.{of_group}
 use Rattle.desc_checks.specs.Limits.{is_some_up_to, table_too_many, too_many}

@@ -1,10 +1,10 @@
 -- Aggregation groups, with the places of rowkey columns for their names, and the cuboids that they give.
 use Rattle.std.specs.Prelude.{ℕ, List, map, Option, is_none, is_some, unwrap_or, Bool, ◌&&◌, nat_le, bytes_eq, length}
 use Rattle.std.specs.List.{flat_map, list_all, position}
-use Rattle.desc_shape.specs.Places.{Place}
-use Rattle.desc_shape.specs.declared.raw.RawName.{RawName}
-use Rattle.desc_shape.specs.declared.raw.RawGroup.{RawGroup}
-use Rattle.desc_shape.specs.declared.raw.RawDesc.{RawDesc}
+use Rattle.descriptor_json.specs.Places.{JsonPointer}
+use Rattle.descriptor_json.specs.declared.raw.RawName.{RawName}
+use Rattle.descriptor_json.specs.declared.raw.RawGroup.{RawGroup}
+use Rattle.descriptor_json.specs.declared.raw.RawDesc.{RawDesc}
 use Rattle.agg_group.specs.Rules.{Rules}
 use Rattle.agg_group.specs.Faults.{group_fault}
 use Rattle.agg_group.specs.Built.{built_masks}
@@ -39,10 +39,10 @@ has_dimensions rowkey g =
 abbrev pub is_group : List RawName → RawGroup → Bool
 is_group rowkey g = has_dimensions rowkey g && is_none (group_fault (rules_of rowkey g))
 
-abbrev pub bad_group : List RawName → RawGroup → List Place
+abbrev pub bad_group : List RawName → RawGroup → List JsonPointer
 bad_group rowkey g = unless (is_group rowkey g) g.place
 
-abbrev pub bad_groups : RawDesc → List Place
+abbrev pub bad_groups : RawDesc → List JsonPointer
 bad_groups r = flat_map (bad_group r.rowkey.items) r.groups.items
 
 abbrev pub groups_of : RawDesc → List Rules
@@ -52,5 +52,5 @@ abbrev pub masks_of : RawDesc → List Mask
 masks_of r = built_masks (length r.rowkey.items) (groups_of r)
 
 -- more than 512 cuboids
-abbrev pub too_many_cuboids : RawDesc → List Place
+abbrev pub too_many_cuboids : RawDesc → List JsonPointer
 too_many_cuboids r = unless (nat_le (length (masks_of r)) 512) r.groups.place

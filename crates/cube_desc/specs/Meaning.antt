@@ -1,8 +1,8 @@
 -- What bytes mean: a cube, or the first fault.
 use Rattle.std.specs.Prelude.{ℕ, List, [], ◌++◌, Option, Some, None, Result, Ok, Err}
 use Rattle.std.specs.Result.{result_ok}
-use Rattle.desc_shape.specs.Bytes.{Shaped, no_json, wrong_at, shaped, shape_of}
-use Rattle.desc_shape.specs.declared.raw.RawDesc.{RawDesc}
+use Rattle.descriptor_json.specs.Bytes.{Shaped, no_json, wrong_at, shaped, shape_of}
+use Rattle.descriptor_json.specs.declared.raw.RawDesc.{RawDesc}
 use Rattle.desc_checks.specs.Firsts.{first}
 use Rattle.desc_checks.specs.Faults.{each, faults}
 use Rattle.desc_checks.specs.declared.kind.DescFault.{DescFault}

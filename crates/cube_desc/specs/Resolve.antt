@@ -9,14 +9,14 @@ use Rattle.cube_val.specs.declared.form.JoinStep.{JoinStep}
 use Rattle.cube_val.specs.declared.form.JoinPlan.{JoinPlan}
 use Rattle.measure_laws.specs.declared.measure.MeasureForm.{MeasureForm}
 use Rattle.measure_laws.specs.declared.measure.MeasureForm.TheVariants as form
-use Rattle.desc_shape.specs.declared.raw.RawName.{RawName}
-use Rattle.desc_shape.specs.declared.raw.RawColumn.{RawColumn}
-use Rattle.desc_shape.specs.declared.raw.RawLookup.{RawLookup}
-use Rattle.desc_shape.specs.declared.raw.RawNamed.{RawNamed}
-use Rattle.desc_shape.specs.declared.raw.RawNamed.TheVariants.{Column, Derived}
-use Rattle.desc_shape.specs.declared.raw.RawDimension.{RawDimension}
-use Rattle.desc_shape.specs.declared.raw.RawMeasure.{RawMeasure}
-use Rattle.desc_shape.specs.declared.raw.RawDesc.{RawDesc}
+use Rattle.descriptor_json.specs.declared.raw.RawName.{RawName}
+use Rattle.descriptor_json.specs.declared.raw.RawColumn.{RawColumn}
+use Rattle.descriptor_json.specs.declared.raw.RawLookup.{RawLookup}
+use Rattle.descriptor_json.specs.declared.raw.RawNamed.{RawNamed}
+use Rattle.descriptor_json.specs.declared.raw.RawNamed.TheVariants.{Column, Derived}
+use Rattle.descriptor_json.specs.declared.raw.RawDimension.{RawDimension}
+use Rattle.descriptor_json.specs.declared.raw.RawMeasure.{RawMeasure}
+use Rattle.descriptor_json.specs.declared.raw.RawDesc.{RawDesc}
 use Rattle.desc_checks.specs.Names.{table_part, column_part}
 use Rattle.desc_checks.specs.Tables.{columns_of, fact_columns}
 use Rattle.desc_checks.specs.Columns.{takes_column}

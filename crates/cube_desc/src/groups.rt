@@ -8,14 +8,14 @@ ghost use Rattle.cube_desc.specs.Groups.{dimension_number, dimensions_of, rules_
 
 use agg_group::{DimList, Group, GroupFault, Mask, MaskFault, valid_masks};
 use cube_val::Items;
-use desc_shape::{Place, RawDesc, RawGroup, RawName};
+use descriptor_json::{JsonPointer, RawDesc, RawGroup, RawName};
 use std::alloc::{AllocError, Global};
 
 /// Why there are no groups.
 #[derive(Drop)]
 pub(crate) enum GroupStop {
     /// The group at this place is none, and each before it is one.
-    At(Place),
+    At(JsonPointer),
     /// There is no memory for the groups.
     Memory,
 }

@@ -1,7 +1,7 @@
 //! The cube descriptor: a JSON file that says which tables a cube has, how they are joined, which dimensions and measures
 //! it has and which cuboids it builds; read exactly, or refused with the first fault and its place.
 //!
-//! `read_desc` is the whole: it reads the shape (`desc_shape`), runs the checks (`desc_checks`) and resolves names to numbers.
+//! `read_desc` is the whole: it reads the shape (`descriptor_json`), runs the checks (`desc_checks`) and resolves names to numbers.
 //! What bytes mean is a function of the bytes (`meaning` in `specs/Meaning.antt`), so formats that hold a descriptor go on
 //! from it.
 //!

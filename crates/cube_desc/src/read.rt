@@ -1,7 +1,7 @@
 // Reading a descriptor.
 
 ghost use Rattle.std.specs.Prelude.{◌≡◌, ◌<◌, ◌≤◌, ℕ, List, [], IfOk, Ok, Err, Some, None, Option, length};
-ghost use Rattle.desc_shape.specs.Bytes.{shaped, shape_of};
+ghost use Rattle.descriptor_json.specs.Bytes.{shaped, shape_of};
 ghost use Rattle.desc_checks.specs.Firsts.{first};
 ghost use Rattle.desc_checks.specs.Faults.{faults};
 ghost use Rattle.desc_checks.specs.declared.kind.DescFault.{DescFault};
@@ -15,7 +15,7 @@ use crate::resolve::{derived_columns, join_plan, measure_descs, rowkey_columns, 
 use agg_group::{Group, Mask};
 use cube_val::{Items, NameText};
 use desc_checks::{DescFault, DescKind, first_fault};
-use desc_shape::{Place, RawDesc, ShapeFault, read_raw};
+use descriptor_json::{JsonPointer, RawDesc, ShapeFault, read_raw};
 use std::alloc::{AllocError, Global};
 use std::sync::Arc;
 
@@ -39,7 +39,7 @@ impl From<AllocError> for DescRefusal {
     }
 }
 
-fn refusal(alloc: Global, kind: DescKind, place: &Place) -> DescRefusal
+fn refusal(alloc: Global, kind: DescKind, place: &JsonPointer) -> DescRefusal
     ensures { (f : DescFault) → result ≡ DescRefusal.Fault f → f ≡ record { kind = kind; place = place.now } }
 {
     match NameText::new(alloc, place.bytes()) {
@@ -79,7 +79,7 @@ fn resolved(
     })
 }
 
-fn bad_group(alloc: Global, raw: &RawDesc, place: &Place) -> DescRefusal
+fn bad_group(alloc: Global, raw: &RawDesc, place: &JsonPointer) -> DescRefusal
     requires passed { first (faults raw.now) ≡ None }
     requires bad { first (bad_groups raw.now) ≡ Some place.now }
     ensures { (f : DescFault) → result ≡ DescRefusal.Fault f → described (shaped raw.now) ≡ Err f }
@@ -154,7 +154,9 @@ fn read_parts(alloc: Global, bytes: &[u8]) -> Result<CubeParts, DescRefusal>
 {
     match read_raw(alloc, bytes) {
         Ok(raw) => judge(alloc, &raw),
-        Err(ShapeFault::NotJson) => { Err(refusal(alloc, DescKind::NotJson, &Place::root(alloc))) }
+        Err(ShapeFault::NotJson) => {
+            Err(refusal(alloc, DescKind::NotJson, &JsonPointer::root(alloc)))
+        }
         Err(ShapeFault::Shape(place)) => Err(refusal(alloc, DescKind::Shape, &place)),
         Err(ShapeFault::Memory) => Err(DescRefusal::Memory),
     }

@@ -4,12 +4,12 @@ ghost use Rattle.std.specs.Prelude.{◌≡◌, ◌==◌, ◌<◌, ◌^◌, ◌++
 ghost use Rattle.std.specs.List.{flat_map, position, list_any};
 ghost use Rattle.std.specs.Arc.{arc_value};
 ghost use Rattle.cube_desc.specs.Resolve.{type_named, column_of, table_of, lookup_of, tables_of, column_place, lookup_place, table_number, wide_of, rowkey_column, rowkey_of, derived_column, derived_named, dimension_derived, derived_of, form_named, measured_column, measure_of, measures_of, firsts, measure_columns, join_of, wide_derived, wide_fact, wide_columns, plan_of};
-ghost use Rattle.desc_shape.specs.declared.raw.RawLookup.{RawLookup};
+ghost use Rattle.descriptor_json.specs.declared.raw.RawLookup.{RawLookup};
 
 use crate::desc::{DerivedDesc, MeasureDesc, TableDesc};
 use cube_val::{ColDesc, ColType, Items, JoinPlan, JoinStep, WideCol};
 use desc_checks::{column_number, columns_named, fact_columns, parts, takes_column};
-use desc_shape::{RawColumn, RawDesc, RawDimension, RawLookup, RawMeasure, RawName, RawNamed};
+use descriptor_json::{RawColumn, RawDesc, RawDimension, RawLookup, RawMeasure, RawName, RawNamed};
 use measure_laws::MeasureForm;
 use std::alloc::{AllocError, Global};
 

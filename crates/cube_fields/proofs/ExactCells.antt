@@ -29,7 +29,7 @@ use Rattle.cube_fields.specs.Orders.{before}
 use Rattle.cube_fields.specs.Reading.{cell_at, cells_at, count_at, counted_cells_at, counts_fit, distinct_of, greatest_of, id_at, ids_at, is_some_list, key_before, least_of, row_at, rows_at, set_of, sum_at, sum_of, table_at, table_from, tables_at}
 use Rattle.cube_fields.specs.declared.forms.CellForm.{CellForm}
 use Rattle.cube_fields.specs.declared.forms.CellForm.TheVariants as form
-use Rattle.cube_fields.specs.declared.forms.TableForm.{TableForm}
+use Rattle.cube_fields.specs.declared.forms.CellTableForm.{CellTableForm}
 use Rattle.cube_fields.proofs.CellFacts.{set_is}
 use Rattle.cube_fields.proofs.Rises.{keys_rising, keys_sorted, rising, sorted}
 use Rattle.cube_fields.proofs.TableFacts.{counts_again, counts_sum, rows_of}
@@ -215,7 +215,7 @@ exact_cells most forms small =
 abbrev Row : Type 0
 Row = List ℕ × List Cell
 
-exact_row : (sizes : List ℕ) (f : TableForm) → f.most < 2 ^ 32 → Exact row_text (FitsRow sizes f) (row_at sizes f)
+exact_row : (sizes : List ℕ) (f : CellTableForm) → f.most < 2 ^ 32 → Exact row_text (FitsRow sizes f) (row_at sizes f)
 unfolding row_at
 exact_row sizes f small = exact_fit row_text (λ (row : Row). (EachFits FitsId sizes row.0 × FitsCells f.most f.cells row.1) × (list_all (are_ordered row.1) f.extremes ≡ true)) (FitsRow sizes f) _
     (λ row h. record { key = h.0.0; cells = h.0.1; ordered = h.1 })
@@ -227,17 +227,17 @@ some_count : (most : ℕ) (forms : List CellForm) (cells : List Cell) → FitsCe
 some_count most forms cells h = (cells_two most forms cells h).0.0
 
 -- rows of at least one row each are no more than what they count
-few_rows : (sizes : List ℕ) (f : TableForm) (rows : List Row) → AllByRecursion (FitsRow sizes f) rows → length rows ≤ sum_by rows_of rows
+few_rows : (sizes : List ℕ) (f : CellTableForm) (rows : List Row) → AllByRecursion (FitsRow sizes f) rows → length rows ≤ sum_by rows_of rows
 few_rows sizes f [] h = omega arith
 few_rows sizes f (row ∷ rows) h = omega (arith, some_count f.most f.cells row.1 h.0.cells, few_rows sizes f rows h.1, sum_by-cons rows_of row rows)
 
-abbrev FitsRows : List ℕ → TableForm → List Row → Type 0
+abbrev FitsRows : List ℕ → CellTableForm → List Row → Type 0
 FitsRows sizes f rows = (((length rows ≤ f.most) × AllByRecursion (FitsRow sizes f) rows) × (rises key_before rows ≡ true)) × (counts_fit f.most rows ≡ true)
 
-exact_rows : (sizes : List ℕ) (f : TableForm) → f.most < 2 ^ 32 → Exact (list_text row_text) (FitsRows sizes f) (rows_at sizes f)
+exact_rows : (sizes : List ℕ) (f : CellTableForm) → f.most < 2 ^ 32 → Exact (list_text row_text) (FitsRows sizes f) (rows_at sizes f)
 exact_rows sizes f small = exact_if (counts_fit f.most) _ _ _ (exact_if (rises key_before) _ _ _ (exact_list f.most row_text (FitsRow sizes f) (row_at sizes f) small (exact_row sizes f small)))
 
-table_one : (f : TableForm) (m : Mask) (x : ℕ × List Row) → (x.0 < 2 ^ 64) × (eqb x.0 m.0 ≡ true) → FitsRows (sizes_in f.sizes m) f x.1 → FitsTable f m (table_from f x)
+table_one : (f : CellTableForm) (m : Mask) (x : ℕ × List Row) → (x.0 < 2 ^ 64) × (eqb x.0 m.0 ≡ true) → FitsRows (sizes_in f.sizes m) f x.1 → FitsTable f m (table_from f x)
 table_one f m x n h = record {
   mask = let same = eqb-true _ _ n.1 in λ i. record { 0 = same i };
   measures = refl;
@@ -246,24 +246,24 @@ table_one f m x n h = record {
   few = counts_sum f.most x.1 h.1;
 }
 
-same_table : (f : TableForm) (t : CellRows) → t.forms ≡ measures_of f → table_from f (t.mask.0, t.rows) ≡ t
+same_table : (f : CellTableForm) (t : CellRows) → t.forms ≡ measures_of f → table_from f (t.mask.0, t.rows) ≡ t
 same_table f t e = λ i. record { mask = t.mask; forms = sym e i; rows = t.rows }
 
-table_two : (f : TableForm) (m : Mask) (t : CellRows) → m.0 < 2 ^ 64 → FitsTable f m t → ((t.mask.0 < 2 ^ 64) × (eqb t.mask.0 m.0 ≡ true)) × FitsRows (sizes_in f.sizes m) f t.rows
+table_two : (f : CellTableForm) (m : Mask) (t : CellRows) → m.0 < 2 ^ 64 → FitsTable f m t → ((t.mask.0 < 2 ^ 64) × (eqb t.mask.0 m.0 ≡ true)) × FitsRows (sizes_in f.sizes m) f t.rows
 table_two f m t small h =
     let same : t.mask.0 ≡ m.0 = ap (λ (k : Mask). k.0) h.mask in
     ((omega (arith, same, small), eq-eqb _ _ same), (((omega (arith, few_rows (sizes_in f.sizes m) f t.rows h.rows, h.few), h.rows), keys_rising nat_list_cmp_total t.rows h.rising), counts_again f.most t.rows h.few))
 
-pub exact_table : (f : TableForm) (m : Mask) → f.most < 2 ^ 32 → m.0 < 2 ^ 64 → Exact table_text (FitsTable f m) (table_at f m)
+pub exact_table : (f : CellTableForm) (m : Mask) → f.most < 2 ^ 32 → m.0 < 2 ^ 64 → Exact table_text (FitsTable f m) (table_at f m)
 unfolding table_at
 exact_table f m small wide = exact_as (table_from f) (λ (t : CellRows). (t.mask.0, t.rows)) _ _ (FitsTable f m) _
     (λ x h. (refl, table_one f m x h.0 h.1))
     (λ t h. (same_table f t h.measures, table_two f m t wide h))
     (exact_then _ _ _ (λ n (rows : List Row). list_text row_text rows) _ _ (exact_if (λ n. eqb n m.0) _ (λ (n : ℕ). n < 2 ^ 64) _ (exact_number w64 (2 ^ 64) wide64)) (λ n h. exact_rows (sizes_in f.sizes m) f small))
 
-each_table : (f : TableForm) (masks : List Mask) → f.most < 2 ^ 32 → AllByRecursion (λ (m : Mask). m.0 < 2 ^ 64) masks → AllByRecursion (λ (m : Mask). Exact table_text (FitsTable f m) (table_at f m)) masks
+each_table : (f : CellTableForm) (masks : List Mask) → f.most < 2 ^ 32 → AllByRecursion (λ (m : Mask). m.0 < 2 ^ 64) masks → AllByRecursion (λ (m : Mask). Exact table_text (FitsTable f m) (table_at f m)) masks
 each_table f [] small wide = tt
 each_table f (m ∷ masks) small wide = (exact_table f m small wide.0, each_table f masks small wide.1)
 
-pub exact_tables : (f : TableForm) (masks : List Mask) → f.most < 2 ^ 32 → length masks < 2 ^ 32 → AllByRecursion (λ (m : Mask). m.0 < 2 ^ 64) masks → Exact tables_text (FitsTables f masks) (tables_at f masks)
+pub exact_tables : (f : CellTableForm) (masks : List Mask) → f.most < 2 ^ 32 → length masks < 2 ^ 32 → AllByRecursion (λ (m : Mask). m.0 < 2 ^ 64) masks → Exact tables_text (FitsTables f masks) (tables_at f masks)
 exact_tables f masks small short wide = exact_counted table_text (FitsTable f) (table_at f) masks (each_table f masks small wide) short

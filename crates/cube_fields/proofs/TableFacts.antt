@@ -25,7 +25,7 @@ use Rattle.cube_fields.specs.Cells.{are_ordered, count_in, dims_in, measure_of, 
 use Rattle.cube_fields.specs.Reading.{cell_at, cells_at, count_at, counted_cells_at, counts_fit, id_at, ids_at, key_before, row_at, rows_at, sum_at}
 use Rattle.cube_fields.specs.declared.forms.CellForm.{CellForm}
 use Rattle.cube_fields.specs.declared.forms.CellForm.TheVariants as form
-use Rattle.cube_fields.specs.declared.forms.TableForm.{TableForm}
+use Rattle.cube_fields.specs.declared.forms.CellTableForm.{CellTableForm}
 use Rattle.cube_fields.proofs.Given.{Gets, gets_any, gets_as, gets_each, gets_if, gets_list, gets_then}
 use Rattle.cube_fields.proofs.Rises.{keys_sorted}
 
@@ -65,10 +65,10 @@ gets_cells most forms =
 
 -- ---- rows
 
-abbrev IsRow : List ℕ → TableForm → Row → Type 0
+abbrev IsRow : List ℕ → CellTableForm → Row → Type 0
 IsRow sizes f row = EachFits (λ (size id : ℕ). Unit {0}) sizes row.0 × AreOfForms f.cells row.1
 
-gets_row : (sizes : List ℕ) (f : TableForm) → Gets (IsRow sizes f) (row_at sizes f)
+gets_row : (sizes : List ℕ) (f : CellTableForm) → Gets (IsRow sizes f) (row_at sizes f)
 unfolding row_at
 gets_row sizes f bytes z e =
     (gets_if (IsRow sizes f) (λ row. list_all (are_ordered row.1) f.extremes) (then_at (each_at id_at sizes) (λ _. cells_at f.most f.cells))
@@ -83,11 +83,11 @@ each_length F (c ∷ cs) (x ∷ xs) h = ap suc (each_length F cs xs h.1)
 
 -- ---- what a table keeps
 
-width_is : (f : TableForm) (mask : Mask) → length (sizes_in f.sizes mask) ≡ count_of mask
+width_is : (f : CellTableForm) (mask : Mask) → length (sizes_in f.sizes mask) ≡ count_of mask
 unfolding count_of dims_in sizes_in
 width_is f mask = length-map (dims_in mask) (λ d. slice_index_or f.sizes d 0) ∙ length-filter (has mask) (dimensions 64)
 
-widths : (f : TableForm) (mask : Mask) (rows : List Row) → AllByRecursion (IsRow (sizes_in f.sizes mask) f) rows → AllByRecursion (λ (row : Row). length row.0 ≡ count_of mask) rows
+widths : (f : CellTableForm) (mask : Mask) (rows : List Row) → AllByRecursion (IsRow (sizes_in f.sizes mask) f) rows → AllByRecursion (λ (row : Row). length row.0 ≡ count_of mask) rows
 widths f mask [] h = tt
 widths f mask (row ∷ rows) h = (each_length (λ (size id : ℕ). Unit {0}) (sizes_in f.sizes mask) row.0 h.0.0 ∙ width_is f mask, widths f mask rows h.1)
 
@@ -97,7 +97,7 @@ forms_behind n [] (c ∷ cells) h = absurd h
 forms_behind n (f ∷ forms) [] h = absurd h
 forms_behind n (f ∷ forms) (c ∷ cells) h = λ i. h.0.0 i ∷ forms_behind n forms cells h.1 i
 
-forms_are : (f : TableForm) (cells : List Cell) → AreOfForms f.cells cells → map form_of cells ≡ measures_of f
+forms_are : (f : CellTableForm) (cells : List Cell) → AreOfForms f.cells cells → map form_of cells ≡ measures_of f
 forms_are f [] h = absurd h
 forms_are f (Count n ∷ cells) h = ap (λ (ms : List MeasureForm). measure.Count ∷ ms) (forms_behind n f.cells cells h)
 forms_are f (Sum s ∷ cells) h = absurd h
@@ -105,7 +105,7 @@ forms_are f (Min m ∷ cells) h = absurd h
 forms_are f (Max m ∷ cells) h = absurd h
 forms_are f (Distinct d ∷ cells) h = absurd h
 
-all_forms : (sizes : List ℕ) (f : TableForm) (rows : List Row) → AllByRecursion (IsRow sizes f) rows → AllByRecursion (λ (row : Row). map form_of row.1 ≡ measures_of f) rows
+all_forms : (sizes : List ℕ) (f : CellTableForm) (rows : List Row) → AllByRecursion (IsRow sizes f) rows → AllByRecursion (λ (row : Row). map form_of row.1 ≡ measures_of f) rows
 all_forms sizes f [] h = tt
 all_forms sizes f (row ∷ rows) h = (forms_are f row.1 h.0.1, all_forms sizes f rows h.1)
 
@@ -128,7 +128,7 @@ items_few k forms (Distinct d ∷ cells) h = absurd h
 abbrev pub rows_of : Row → ℕ
 rows_of row = count_in row.1
 
-sums : (k : ℕ) (sizes : List ℕ) (f : TableForm) (rows : List Row) → AllByRecursion (IsRow sizes f) rows → sum_by (λ (row : Row). items_at k row.1) rows ≤ sum_by rows_of rows
+sums : (k : ℕ) (sizes : List ℕ) (f : CellTableForm) (rows : List Row) → AllByRecursion (IsRow sizes f) rows → sum_by (λ (row : Row). items_at k row.1) rows ≤ sum_by rows_of rows
 sums k sizes f [] h = omega arith
 sums k sizes f (row ∷ rows) h =
     omega (arith, items_few k f.cells row.1 h.0.1, sums k sizes f rows h.1, sum_by-cons (λ (r : Row). items_at k r.1) row rows, sum_by-cons rows_of row rows)
@@ -154,7 +154,7 @@ counts_again most (row ∷ rows) h =
     let one = at_most_again (rows_of row) most (omega (arith, h, sum_by-cons rows_of row rows)) in
     rw one (counts_again (most - rows_of row) rows (omega (arith, h, sum_by-cons rows_of row rows)))
 
-pub is_table : (f : TableForm) (mask : Mask) (sizes bytes : List ℕ) (rows : List Row) (rest : List ℕ) → f.most < 2 ^ 32 → sizes ≡ sizes_in f.sizes mask → rows_at sizes f bytes ≡ Some (rows, rest) → IsCellTable mask (measures_of f) rows
+pub is_table : (f : CellTableForm) (mask : Mask) (sizes bytes : List ℕ) (rows : List Row) (rest : List ℕ) → f.most < 2 ^ 32 → sizes ≡ sizes_in f.sizes mask → rows_at sizes f bytes ≡ Some (rows, rest) → IsCellTable mask (measures_of f) rows
 is_table f mask sizes bytes rows rest small same e =
     let h = gets_if (λ (rows : List Row). ((length rows ≤ f.most) × AllByRecursion (IsRow (sizes_in f.sizes mask) f) rows) × (rises key_before rows ≡ true)) (counts_fit f.most) _
     (gets_if (λ (rows : List Row). (length rows ≤ f.most) × AllByRecursion (IsRow (sizes_in f.sizes mask) f) rows) (rises key_before) _

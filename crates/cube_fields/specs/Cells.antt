@@ -18,7 +18,7 @@ use Rattle.measure_laws.specs.Measures.{Summed, most_of_item}
 use Rattle.cube_fields.specs.declared.forms.CellForm.{CellForm}
 use Rattle.cube_fields.specs.declared.forms.CellForm.TheVariants as form
 use Rattle.cube_fields.specs.declared.forms.Extremes.{Extremes}
-use Rattle.cube_fields.specs.declared.forms.TableForm.{TableForm}
+use Rattle.cube_fields.specs.declared.forms.CellTableForm.{CellTableForm}
 
 -- ---- bytes
 
@@ -119,17 +119,17 @@ measure_of form.Min = measure.Min
 measure_of form.Max = measure.Max
 measure_of (form.Distinct size) = measure.Distinct
 
-abbrev pub measures_of : TableForm → List MeasureForm
+abbrev pub measures_of : CellTableForm → List MeasureForm
 measures_of f = measure.Count ∷ map measure_of f.cells
 
 -- a key of numbers below the sizes, and cells of the form
-pub record FitsRow (sizes : List ℕ) (f : TableForm) (row : List ℕ × List Cell) : Type 0 where
+pub record FitsRow (sizes : List ℕ) (f : CellTableForm) (row : List ℕ × List Cell) : Type 0 where
   pub key : EachFits FitsId sizes row.0
   pub cells : FitsCells f.most f.cells row.1
   pub ordered : list_all (are_ordered row.1) f.extremes ≡ true
 
 -- such rows, whose keys rise strictly, and whose counts add up to at most so many
-pub record FitsTable (f : TableForm) (m : Mask) (t : CellRows) : Type 0 where
+pub record FitsTable (f : CellTableForm) (m : Mask) (t : CellRows) : Type 0 where
   pub mask : t.mask ≡ m
   pub measures : t.forms ≡ measures_of f
   pub rows : AllByRecursion (FitsRow (sizes_in f.sizes m) f) t.rows
@@ -137,5 +137,5 @@ pub record FitsTable (f : TableForm) (m : Mask) (t : CellRows) : Type 0 where
   pub few : sum_by (λ row. count_in row.1) t.rows ≤ f.most
 
 -- one table for each mask
-abbrev pub FitsTables : TableForm → List Mask → List CellRows → Type 0
+abbrev pub FitsTables : CellTableForm → List Mask → List CellRows → Type 0
 FitsTables f masks tables = EachFits (FitsTable f) masks tables

@@ -19,7 +19,7 @@ use Rattle.cube_fields.specs.Orders.{before}
 use Rattle.cube_fields.specs.declared.dicts.DictForm.{DictForm}
 use Rattle.cube_fields.specs.declared.forms.CellForm.{CellForm}
 use Rattle.cube_fields.specs.declared.forms.CellForm.TheVariants as form
-use Rattle.cube_fields.specs.declared.forms.TableForm.{TableForm}
+use Rattle.cube_fields.specs.declared.forms.CellTableForm.{CellTableForm}
 
 -- ---- dictionaries
 
@@ -81,7 +81,7 @@ cells_at most forms = as_at (λ p. p.1) (then_at (count_at most) (λ n. counted_
 
 -- ---- tables
 
-unfoldable pub row_at : List ℕ → TableForm → List ℕ → Option ((List ℕ × List Cell) × List ℕ)
+unfoldable pub row_at : List ℕ → CellTableForm → List ℕ → Option ((List ℕ × List Cell) × List ℕ)
 row_at sizes f = if_at (λ row. list_all (are_ordered row.1) f.extremes) (then_at (each_at id_at sizes) (λ _. cells_at f.most f.cells))
 
 abbrev pub key_before : List ℕ × List Cell → List ℕ × List Cell → Bool
@@ -92,14 +92,14 @@ abbrev pub counts_fit : ℕ → List (List ℕ × List Cell) → Bool
 counts_fit most [] = true
 counts_fit most (row ∷ rows) = if nat_le (count_in row.1) most then counts_fit (most - count_in row.1) rows else false
 
-abbrev pub rows_at : List ℕ → TableForm → List ℕ → Option (List (List ℕ × List Cell) × List ℕ)
+abbrev pub rows_at : List ℕ → CellTableForm → List ℕ → Option (List (List ℕ × List Cell) × List ℕ)
 rows_at sizes f = if_at (counts_fit f.most) (if_at (rises key_before) (list_at f.most (row_at sizes f)))
 
-abbrev pub table_from : TableForm → ℕ × List (List ℕ × List Cell) → CellRows
+abbrev pub table_from : CellTableForm → ℕ × List (List ℕ × List Cell) → CellRows
 table_from f p = record { mask = record { 0 = p.0 }; forms = measures_of f; rows = p.1 }
 
-unfoldable pub table_at : TableForm → Mask → List ℕ → Option (CellRows × List ℕ)
+unfoldable pub table_at : CellTableForm → Mask → List ℕ → Option (CellRows × List ℕ)
 table_at f mask = as_at (table_from f) (then_at (if_at (λ m. m == mask.0) (number_at w64)) (λ _. rows_at (sizes_in f.sizes mask) f))
 
-abbrev pub tables_at : TableForm → List Mask → List ℕ → Option (List CellRows × List ℕ)
+abbrev pub tables_at : CellTableForm → List Mask → List ℕ → Option (List CellRows × List ℕ)
 tables_at f masks = counted_at (table_at f) masks

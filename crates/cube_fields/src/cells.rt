@@ -12,7 +12,7 @@ ghost use Rattle.cube_fields.specs.Cells.{are_ordered, value_in};
 ghost use Rattle.cube_fields.specs.Reading.{cell_at, cells_at, count_at, counted_cells_at, distinct_of, greatest_of, id_at, ids_at, least_of, row_at, sum_at, sum_of};
 
 use crate::each::{ReadsIn, read_behind};
-use crate::forms::{CellForm, Extremes, TableForm};
+use crate::forms::{CellForm, CellTableForm, Extremes};
 use crate::order::rise;
 use byte_frame::{FieldReader, ReadError, Reads, read_list};
 use cell_store::{Cell, CellRow};
@@ -275,14 +275,14 @@ pub(crate) struct RowOf<'a> {
     /// The size of the dictionary of each dimension of the table's mask.
     pub(crate) sizes: &'a [u32],
     /// The form of the table.
-    pub(crate) form: &'a TableForm,
+    pub(crate) form: &'a CellTableForm,
 }
 
 #[tactic(auto, unfolding(crate::specs::Reading::row_at))]
 fn read_row(
     alloc: Global,
     sizes: &[u32],
-    form: &TableForm,
+    form: &CellTableForm,
     r: &mut FieldReader,
 ) -> Result<CellRow, ReadError>
     ensures { Gives (λ row. (row, r.new)) result (row_at sizes.now form.now r.old) }

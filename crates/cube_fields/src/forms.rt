@@ -26,7 +26,7 @@ pub struct Extremes {
 
 /// What the cell tables of a cube have in common.
 #[derive(Drop)]
-pub struct TableForm {
+pub struct CellTableForm {
     /// For each dimension the size of its dictionary.
     pub sizes: Items<u32>,
     /// The forms of the cells behind the count.

@@ -8,7 +8,7 @@ ghost use Rattle.cube_fields.specs.Reading.{counts_fit, rows_at, table_at, table
 
 use crate::cells::RowOf;
 use crate::each::{ReadsIn, read_behind};
-use crate::forms::{CellForm, TableForm};
+use crate::forms::{CellForm, CellTableForm};
 use crate::order::keys_rise;
 use agg_group::Mask;
 use byte_frame::{FieldReader, ReadError, read_list};
@@ -64,7 +64,7 @@ fn measure_of(form: &CellForm) -> MeasureForm
 }
 
 // The forms of measure of all cells, the count first.
-fn measures_of(alloc: Global, form: &TableForm) -> Result<Vec<MeasureForm>, AllocError>
+fn measures_of(alloc: Global, form: &CellTableForm) -> Result<Vec<MeasureForm>, AllocError>
     ensures { IfOk result (λ v. v.items ≡ measures_of form.now) }
 {
     let mut measures = Vec::new(alloc);
@@ -104,7 +104,7 @@ fn counts_fit(rows: &[CellRow], most: u32) -> bool
 fn read_rows(
     alloc: Global,
     sizes: &[u32],
-    form: &TableForm,
+    form: &CellTableForm,
     r: &mut FieldReader,
 ) -> Result<Vec<CellRow>, ReadError>
     ensures rows { Gives (λ rows. (rows.items, r.new)) result (rows_at sizes.now form.now r.old) }
@@ -126,7 +126,7 @@ fn read_rows(
 // The table of these rows.
 fn table_of(
     alloc: Global,
-    form: &TableForm,
+    form: &CellTableForm,
     mask: Mask,
     rows: Vec<CellRow>,
 ) -> Result<CellTable, AllocError>
@@ -142,7 +142,7 @@ fn table_of(
 #[tactic(auto, unfolding(crate::specs::Reading::table_at))]
 pub fn read_table(
     alloc: Global,
-    form: &TableForm,
+    form: &CellTableForm,
     mask: Mask,
     r: &mut FieldReader,
 ) -> Result<CellTable, ReadError>
@@ -163,7 +163,7 @@ pub fn read_table(
     Ok(table)
 }
 
-impl ReadsIn<TableForm, CellTable> for Mask {
+impl ReadsIn<CellTableForm, CellTable> for Mask {
     ghost use Rattle.cube_fields.specs.Reading.{table_at};
 
     ghost at = { table_at };
@@ -171,7 +171,7 @@ impl ReadsIn<TableForm, CellTable> for Mask {
     fn read_in(
         &self,
         alloc: Global,
-        env: &TableForm,
+        env: &CellTableForm,
         r: &mut FieldReader,
     ) -> Result<CellTable, ReadError> {
         read_table(alloc, env, *self, r)
@@ -181,7 +181,7 @@ impl ReadsIn<TableForm, CellTable> for Mask {
 /// A cell table for each mask, behind their number.
 pub fn read_tables(
     alloc: Global,
-    form: &TableForm,
+    form: &CellTableForm,
     masks: &[Mask],
     r: &mut FieldReader,
 ) -> Result<Vec<CellTable>, ReadError>

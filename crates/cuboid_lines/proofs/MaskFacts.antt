@@ -10,8 +10,8 @@ use Rattle.cube_desc.specs.Meaning.{all_faults, desc_of, described, judged}
 use Rattle.cube_desc.specs.Resolve.{cube_of}
 use Rattle.desc_checks.specs.Firsts.{first}
 use Rattle.desc_checks.specs.declared.kind.DescFault.{DescFault}
-use Rattle.desc_shape.specs.Bytes.{Shaped, no_json, shape_of, shaped, wrong_at}
-use Rattle.desc_shape.specs.declared.raw.RawDesc.{RawDesc}
+use Rattle.descriptor_json.specs.Bytes.{Shaped, no_json, shape_of, shaped, wrong_at}
+use Rattle.descriptor_json.specs.declared.raw.RawDesc.{RawDesc}
 use Rattle.cuboid_tree.specs.Tree.{SpansTree}
 
 built_span : (r : RawDesc) → SpansTree (masks_of r)

@@ -1,7 +1,7 @@
 -- The faults of a descriptor whose shape is right, in the order of the checks.
 use Rattle.std.specs.Prelude.{List, ◌++◌, map}
-use Rattle.desc_shape.specs.Places.{Place}
-use Rattle.desc_shape.specs.declared.raw.RawDesc.{RawDesc}
+use Rattle.descriptor_json.specs.Places.{JsonPointer}
+use Rattle.descriptor_json.specs.declared.raw.RawDesc.{RawDesc}
 use Rattle.desc_checks.specs.declared.kind.DescFault.{DescFault}
 use Rattle.desc_checks.specs.declared.kind.DescKind.{DescKind}
 use Rattle.desc_checks.specs.declared.kind.DescKind.TheVariants as kind
@@ -16,7 +16,7 @@ use Rattle.desc_checks.specs.Dimensions.{bad_dimensions, bad_rowkey}
 use Rattle.desc_checks.specs.Measures.{bad_measures}
 
 -- a fault of this kind at each of the places
-abbrev pub each : DescKind → List Place → List DescFault
+abbrev pub each : DescKind → List JsonPointer → List DescFault
 each k places = map (λ p. record { kind = k; place = p }) places
 
 -- faults of texts by themselves

@@ -1,12 +1,12 @@
 -- Joins, and the partition date.
 use Rattle.std.specs.Prelude.{ℕ, List, codes, Bool, ◌&&◌, ◌||◌, ◌==◌, bytes_eq, length, zip}
 use Rattle.std.specs.List.{flat_map, list_all}
-use Rattle.desc_shape.specs.Places.{Place}
-use Rattle.desc_shape.specs.declared.raw.RawName.{RawName}
-use Rattle.desc_shape.specs.declared.raw.RawColumn.{RawColumn}
-use Rattle.desc_shape.specs.declared.raw.RawJoin.{RawJoin}
-use Rattle.desc_shape.specs.declared.raw.RawLookup.{RawLookup}
-use Rattle.desc_shape.specs.declared.raw.RawDesc.{RawDesc}
+use Rattle.descriptor_json.specs.Places.{JsonPointer}
+use Rattle.descriptor_json.specs.declared.raw.RawName.{RawName}
+use Rattle.descriptor_json.specs.declared.raw.RawColumn.{RawColumn}
+use Rattle.descriptor_json.specs.declared.raw.RawJoin.{RawJoin}
+use Rattle.descriptor_json.specs.declared.raw.RawLookup.{RawLookup}
+use Rattle.descriptor_json.specs.declared.raw.RawDesc.{RawDesc}
 use Rattle.desc_checks.specs.Firsts.{unless}
 use Rattle.desc_checks.specs.Limits.{is_some_up_to}
 use Rattle.desc_checks.specs.Tables.{columns_of, fact_columns}
@@ -26,11 +26,11 @@ are_pairs lookup fact j = is_some_up_to 4 (length j.primary) && (length j.primar
 abbrev pub is_join : RawDesc → RawLookup → Bool
 is_join r l = is_join_kind l.join.kind.text && are_pairs (columns_of r l.table.text) (fact_columns r) l.join
 
-abbrev pub bad_join : RawDesc → RawLookup → List Place
+abbrev pub bad_join : RawDesc → RawLookup → List JsonPointer
 bad_join r l = unless (is_join r l) l.join.place
 
-abbrev pub bad_joins : RawDesc → List Place
+abbrev pub bad_joins : RawDesc → List JsonPointer
 bad_joins r = flat_map (bad_join r) r.lookups.items
 
-abbrev pub bad_partition : RawDesc → List Place
+abbrev pub bad_partition : RawDesc → List JsonPointer
 bad_partition r = unless (is_date_type (type_of (fact_columns r) r.partition.text)) r.partition.place

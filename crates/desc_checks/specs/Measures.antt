@@ -1,8 +1,8 @@
 -- The functions of measures.
 use Rattle.std.specs.Prelude.{ℕ, List, [], ◌∷◌, ◌++◌, codes, Bool, ◌&&◌, ◌||◌, bytes_eq}
-use Rattle.desc_shape.specs.Places.{Place}
-use Rattle.desc_shape.specs.declared.raw.RawMeasure.{RawMeasure}
-use Rattle.desc_shape.specs.declared.raw.RawDesc.{RawDesc}
+use Rattle.descriptor_json.specs.Places.{JsonPointer}
+use Rattle.descriptor_json.specs.declared.raw.RawMeasure.{RawMeasure}
+use Rattle.descriptor_json.specs.declared.raw.RawDesc.{RawDesc}
 use Rattle.desc_checks.specs.Firsts.{unless, along}
 use Rattle.desc_checks.specs.Columns.{takes_column}
 use Rattle.desc_checks.specs.Tables.{fact_columns}
@@ -26,8 +26,8 @@ is_measure r m =
 abbrev pub function_of : RawMeasure → List ℕ
 function_of m = m.function.expression.text ++ 46 ∷ m.function.parameter.value.text
 
-abbrev pub bad_measure : RawDesc → Bool → RawMeasure → List Place
+abbrev pub bad_measure : RawDesc → Bool → RawMeasure → List JsonPointer
 bad_measure r is_new m = unless (is_new && is_measure r m) m.place
 
-abbrev pub bad_measures : RawDesc → List Place
+abbrev pub bad_measures : RawDesc → List JsonPointer
 bad_measures r = along function_of (bad_measure r) [] r.measures.items

@@ -1,13 +1,13 @@
 -- Tables that are named, and those that aren't there.
 use Rattle.std.specs.Prelude.{ℕ, List, [], ◌++◌, Option, Some, None, Bool, ◌&&◌, ◌||◌, bytes_eq}
 use Rattle.std.specs.List.{flat_map, list_any, find}
-use Rattle.desc_shape.specs.Places.{Place}
-use Rattle.desc_shape.specs.declared.raw.RawName.{RawName}
-use Rattle.desc_shape.specs.declared.raw.RawColumn.{RawColumn}
-use Rattle.desc_shape.specs.declared.raw.RawTable.{RawTable}
-use Rattle.desc_shape.specs.declared.raw.RawLookup.{RawLookup}
-use Rattle.desc_shape.specs.declared.raw.RawDimension.{RawDimension}
-use Rattle.desc_shape.specs.declared.raw.RawDesc.{RawDesc}
+use Rattle.descriptor_json.specs.Places.{JsonPointer}
+use Rattle.descriptor_json.specs.declared.raw.RawName.{RawName}
+use Rattle.descriptor_json.specs.declared.raw.RawColumn.{RawColumn}
+use Rattle.descriptor_json.specs.declared.raw.RawTable.{RawTable}
+use Rattle.descriptor_json.specs.declared.raw.RawLookup.{RawLookup}
+use Rattle.descriptor_json.specs.declared.raw.RawDimension.{RawDimension}
+use Rattle.descriptor_json.specs.declared.raw.RawDesc.{RawDesc}
 use Rattle.desc_checks.specs.Firsts.{unless}
 use Rattle.desc_checks.specs.Groups.{of_group}
 use Rattle.desc_checks.specs.Names.{table_part}
@@ -32,20 +32,20 @@ abbrev pub fact_columns : RawDesc → List RawColumn
 fact_columns r = columns_of r r.fact_table.text
 
 -- the fact table and the lookups have to be among the tables
-abbrev pub no_table : RawDesc → RawName → List Place
+abbrev pub no_table : RawDesc → RawName → List JsonPointer
 no_table r t = unless (has_table r t.text) t.place
 
-abbrev pub lookup_no_table : RawDesc → RawLookup → List Place
+abbrev pub lookup_no_table : RawDesc → RawLookup → List JsonPointer
 lookup_no_table r l = no_table r l.table
 
 -- .. and every other table has to be one of these too
-abbrev pub dimension_no_table : RawDesc → RawDimension → List Place
+abbrev pub dimension_no_table : RawDesc → RawDimension → List JsonPointer
 dimension_no_table r d = unless (has_table r d.table.text && is_joined r d.table.text) d.table.place
 
-abbrev pub text_no_table : RawDesc → RawName → List Place
+abbrev pub text_no_table : RawDesc → RawName → List JsonPointer
 text_no_table r t = unless (has_table r (table_part t.text) && is_joined r (table_part t.text)) t.place
 
-abbrev pub no_tables : RawDesc → List Place
+abbrev pub no_tables : RawDesc → List JsonPointer
 no_tables r =
     no_table r r.fact_table
     ++ flat_map (lookup_no_table r) r.lookups.items

@@ -1,10 +1,10 @@
 -- The types of columns.
 use Rattle.std.specs.Prelude.{ℕ, List, [], Option, Some, None, codes, Bool, ◌||◌, bytes_eq}
 use Rattle.std.specs.List.{flat_map, find}
-use Rattle.desc_shape.specs.Places.{Place}
-use Rattle.desc_shape.specs.declared.raw.RawColumn.{RawColumn}
-use Rattle.desc_shape.specs.declared.raw.RawTable.{RawTable}
-use Rattle.desc_shape.specs.declared.raw.RawDesc.{RawDesc}
+use Rattle.descriptor_json.specs.Places.{JsonPointer}
+use Rattle.descriptor_json.specs.declared.raw.RawColumn.{RawColumn}
+use Rattle.descriptor_json.specs.declared.raw.RawTable.{RawTable}
+use Rattle.descriptor_json.specs.declared.raw.RawDesc.{RawDesc}
 use Rattle.desc_checks.specs.Firsts.{unless}
 
 abbrev pub is_number_type : List ℕ → Bool
@@ -16,13 +16,13 @@ is_date_type s = bytes_eq s (codes "date")
 abbrev pub is_type : List ℕ → Bool
 is_type s = is_number_type s || bytes_eq s (codes "text") || is_date_type s
 
-abbrev pub column_bad_type : RawColumn → List Place
+abbrev pub column_bad_type : RawColumn → List JsonPointer
 column_bad_type c = unless (is_type c.kind.text) c.kind.place
 
-abbrev pub table_bad_types : RawTable → List Place
+abbrev pub table_bad_types : RawTable → List JsonPointer
 table_bad_types t = flat_map column_bad_type t.columns.items
 
-abbrev pub bad_types : RawDesc → List Place
+abbrev pub bad_types : RawDesc → List JsonPointer
 bad_types r = flat_map table_bad_types r.tables
 
 abbrev pub kind_of : Option RawColumn → List ℕ

@@ -6,7 +6,7 @@ ghost use Rattle.desc_checks.specs.Firsts.{first, along};
 ghost use Rattle.desc_checks.specs.Seen.{HasSeen};
 
 use crate::seen::Seen;
-use desc_shape::Place;
+use descriptor_json::JsonPointer;
 use std::alloc::{AllocError, Global};
 
 /// A check of items that have a text, told of each whether its text is none of those before it.
@@ -26,7 +26,7 @@ pub(crate) trait Along<T> {
         alloc: Global,
         is_new: bool,
         item: &'a T,
-    ) -> Result<Option<&'a Place>, AllocError>
+    ) -> Result<Option<&'a JsonPointer>, AllocError>
         ensures { IfOk result (λ o. option_copied o ≡ first (failing self.now is_new item.now)) };
 }
 
@@ -36,7 +36,7 @@ pub(crate) fn first_along<'a, T, C: Along<T>>(
     check: &C,
     mut seen: Seen,
     items: &'a [T],
-) -> Result<Option<&'a Place>, AllocError>
+) -> Result<Option<&'a JsonPointer>, AllocError>
     ensures { (earlier : List (List ℕ)) → HasSeen seen earlier → IfOk result
         (λ o. option_copied o ≡ first (along (C.text check.now) (C.failing check.now) earlier items.now)) }
 {
@@ -57,7 +57,7 @@ pub(crate) fn first_from_start<'a, T, C: Along<T>>(
     alloc: Global,
     check: &C,
     items: &'a [T],
-) -> Result<Option<&'a Place>, AllocError>
+) -> Result<Option<&'a JsonPointer>, AllocError>
     ensures { IfOk result
         (λ o. option_copied o ≡ first (along (C.text check.now) (C.failing check.now) [] items.now)) }
 {

@@ -4,7 +4,7 @@
 ghost use Rattle.std.specs.Prelude.{◌≡◌, ℕ, List, [], ◌∷◌, ◌++◌, Option, bytes_eq};
 ghost use Rattle.std.specs.List.{flat_map, list_any, position};
 ghost use Rattle.std.specs.Option.{option_copied, option_or};
-ghost use Rattle.desc_shape.specs.declared.raw.RawColumn.{RawColumn};
+ghost use Rattle.descriptor_json.specs.declared.raw.RawColumn.{RawColumn};
 ghost use Rattle.desc_checks.specs.Firsts.{first, unless};
 ghost use Rattle.desc_checks.specs.Groups.{of_group};
 ghost use Rattle.desc_checks.specs.Columns.{has_column, no_column, lookup_no_column, dimension_no_column, takes_column, measure_no_column, text_no_column, no_columns};
@@ -13,8 +13,8 @@ use crate::check::{Check, InGroups, first_in, or_first, place_unless};
 use crate::names::parts;
 use crate::tables::{columns_named, fact_columns, lookup_columns};
 use crate::types::is_column;
-use desc_shape::{
-    Place, RawColumn, RawDesc, RawDimension, RawLookup, RawMeasure, RawName, RawNamed,
+use descriptor_json::{
+    JsonPointer, RawColumn, RawDesc, RawDimension, RawLookup, RawMeasure, RawName, RawNamed,
 };
 
 fn has_column(columns: &[RawColumn], name: &[u8]) -> bool
@@ -39,12 +39,12 @@ pub(crate) struct NoColumn<'a> {
 impl<'c> Check<RawName> for NoColumn<'c> {
     ghost failing = { λ s t. no_column s.columns.now t };
 
-    fn first<'a>(&self, name: &'a RawName) -> Option<&'a Place> {
+    fn first<'a>(&self, name: &'a RawName) -> Option<&'a JsonPointer> {
         place_unless(has_column(self.columns, name.text.bytes()), &name.place)
     }
 }
 
-fn first_missing<'a>(columns: &[RawColumn], names: &'a [RawName]) -> Option<&'a Place>
+fn first_missing<'a>(columns: &[RawColumn], names: &'a [RawName]) -> Option<&'a JsonPointer>
     ensures { option_copied result ≡ first (flat_map (no_column columns.now) names.now) }
 {
     first_in(&NoColumn { columns }, names)
@@ -59,7 +59,7 @@ pub(crate) struct NotInTable<'a> {
 impl<'r> Check<RawLookup> for NotInTable<'r> {
     ghost failing = { λ s l. lookup_no_column s.raw.now l };
 
-    fn first<'a>(&self, lookup: &'a RawLookup) -> Option<&'a Place> {
+    fn first<'a>(&self, lookup: &'a RawLookup) -> Option<&'a JsonPointer> {
         let join = &lookup.join;
         let own = lookup_columns(self.raw, lookup);
         let fact = fact_columns(self.raw);
@@ -73,7 +73,7 @@ impl<'r> Check<RawLookup> for NotInTable<'r> {
 impl<'r> Check<RawDimension> for NotInTable<'r> {
     ghost failing = { λ s d. dimension_no_column s.raw.now d };
 
-    fn first<'a>(&self, dimension: &'a RawDimension) -> Option<&'a Place> {
+    fn first<'a>(&self, dimension: &'a RawDimension) -> Option<&'a JsonPointer> {
         let table = &dimension.table;
         let check = NoColumn {
             columns: columns_named(self.raw, table.text.bytes()),
@@ -97,7 +97,7 @@ pub fn takes_column(measure: &RawMeasure) -> bool
 impl<'r> Check<RawMeasure> for NotInTable<'r> {
     ghost failing = { λ s m. measure_no_column s.raw.now m };
 
-    fn first<'a>(&self, measure: &'a RawMeasure) -> Option<&'a Place> {
+    fn first<'a>(&self, measure: &'a RawMeasure) -> Option<&'a JsonPointer> {
         let function = &measure.function;
         let value = &function.parameter.value;
         place_unless(
@@ -110,7 +110,7 @@ impl<'r> Check<RawMeasure> for NotInTable<'r> {
 impl<'r> Check<RawName> for NotInTable<'r> {
     ghost failing = { λ s t. text_no_column s.raw.now t };
 
-    fn first<'a>(&self, text: &'a RawName) -> Option<&'a Place> {
+    fn first<'a>(&self, text: &'a RawName) -> Option<&'a JsonPointer> {
         let (table, column) = parts(text.text.bytes());
         place_unless(
             has_column(columns_named(self.raw, table), column),
@@ -119,7 +119,7 @@ impl<'r> Check<RawName> for NotInTable<'r> {
     }
 }
 
-pub(crate) fn no_column_place(raw: &RawDesc) -> Option<&Place>
+pub(crate) fn no_column_place(raw: &RawDesc) -> Option<&JsonPointer>
     ensures { option_copied result ≡ first (no_columns raw.now) }
 {
     let (lookups, measures) = (&raw.lookups, &raw.measures);

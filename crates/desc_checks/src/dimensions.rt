@@ -4,7 +4,7 @@
 ghost use Rattle.std.specs.Prelude.{◌≡◌, ℕ, List, [], ◌∷◌, ◌++◌, Option, bytes_eq};
 ghost use Rattle.std.specs.List.{flat_map, list_all, list_any, find};
 ghost use Rattle.std.specs.Option.{option_copied, option_or};
-ghost use Rattle.desc_shape.specs.declared.raw.RawName.{RawName};
+ghost use Rattle.descriptor_json.specs.declared.raw.RawName.{RawName};
 ghost use Rattle.desc_checks.specs.Firsts.{first, unless};
 ghost use Rattle.desc_checks.specs.Names.{names_column};
 ghost use Rattle.desc_checks.specs.Dimensions.{is_derivable, bad_dimension, bad_dimensions, foreign_key, in_rowkey, has_rowkey, needs, dimension_bad_rowkey, text_bad_rowkey, bad_rowkey};
@@ -12,7 +12,7 @@ ghost use Rattle.desc_checks.specs.Dimensions.{is_derivable, bad_dimension, bad_
 use crate::check::{Check, first_in, or_first, place_unless};
 use crate::names::names_column;
 use crate::tables::is_lookup;
-use desc_shape::{Place, RawDesc, RawDimension, RawLookup, RawName, RawNamed};
+use descriptor_json::{JsonPointer, RawDesc, RawDimension, RawLookup, RawName, RawNamed};
 
 fn is_derivable(raw: &RawDesc, table: &RawName, named: &RawNamed) -> bool
     ensures { result ≡ is_derivable raw.now table.now named.now }
@@ -32,7 +32,7 @@ pub(crate) struct BadDimension<'a> {
 impl<'r> Check<RawDimension> for BadDimension<'r> {
     ghost failing = { λ s d. bad_dimension s.raw.now d };
 
-    fn first<'a>(&self, dimension: &'a RawDimension) -> Option<&'a Place> {
+    fn first<'a>(&self, dimension: &'a RawDimension) -> Option<&'a JsonPointer> {
         place_unless(
             is_derivable(self.raw, &dimension.table, &dimension.named),
             &dimension.place,
@@ -40,7 +40,7 @@ impl<'r> Check<RawDimension> for BadDimension<'r> {
     }
 }
 
-pub(crate) fn bad_dimension_place(raw: &RawDesc) -> Option<&Place>
+pub(crate) fn bad_dimension_place(raw: &RawDesc) -> Option<&JsonPointer>
     ensures { option_copied result ≡ first (bad_dimensions raw.now) }
 {
     first_in(&BadDimension { raw }, raw.dimensions.as_slice())
@@ -135,7 +135,7 @@ pub(crate) struct BadRowkey<'a> {
 impl<'r> Check<RawDimension> for BadRowkey<'r> {
     ghost failing = { λ s d. dimension_bad_rowkey s.raw.now d };
 
-    fn first<'a>(&self, dimension: &'a RawDimension) -> Option<&'a Place> {
+    fn first<'a>(&self, dimension: &'a RawDimension) -> Option<&'a JsonPointer> {
         place_unless(
             has_rowkey(self.raw, &dimension.table, &dimension.named),
             &dimension.place,
@@ -146,12 +146,12 @@ impl<'r> Check<RawDimension> for BadRowkey<'r> {
 impl<'r> Check<RawName> for BadRowkey<'r> {
     ghost failing = { λ s t. text_bad_rowkey s.raw.now t };
 
-    fn first<'a>(&self, text: &'a RawName) -> Option<&'a Place> {
+    fn first<'a>(&self, text: &'a RawName) -> Option<&'a JsonPointer> {
         place_unless(some_needs(self.raw, text), &text.place)
     }
 }
 
-pub(crate) fn bad_rowkey_place(raw: &RawDesc) -> Option<&Place>
+pub(crate) fn bad_rowkey_place(raw: &RawDesc) -> Option<&JsonPointer>
     ensures { option_copied result ≡ first (bad_rowkey raw.now) }
 {
     let rowkey = &raw.rowkey;

@@ -17,14 +17,14 @@ use crate::repeats::{owned, twice_place};
 use crate::tables::no_table_place;
 use crate::types::bad_type_place;
 use cube_val::NameText;
-use desc_shape::{Place, RawDesc};
+use descriptor_json::{JsonPointer, RawDesc};
 use std::alloc::{AllocError, Global};
 
 /// The fault of this kind at a place, if there is one.
 pub fn fault_at(
     alloc: Global,
     kind: DescKind,
-    place: Option<&Place>,
+    place: Option<&JsonPointer>,
 ) -> Result<Option<DescFault>, AllocError>
     ensures { IfOk result (λ o. (places : List (List ℕ)) → option_copied place.entry ≡ first places → o ≡ first (each kind places)) }
 {

@@ -11,7 +11,7 @@ use crate::check::{Check, first_in, place_unless};
 use crate::limits::is_some_up_to;
 use crate::tables::{fact_columns, lookup_columns};
 use crate::types::{is_date_type, type_of};
-use desc_shape::{Place, RawColumn, RawDesc, RawJoin, RawLookup, RawName};
+use descriptor_json::{JsonPointer, RawColumn, RawDesc, RawJoin, RawLookup, RawName};
 
 /// The most columns of a join's key.
 const MOST_KEY: usize = 4;
@@ -68,20 +68,20 @@ pub(crate) struct BadJoin<'a> {
 impl<'r> Check<RawLookup> for BadJoin<'r> {
     ghost failing = { λ s l. bad_join s.raw.now l };
 
-    fn first<'a>(&self, lookup: &'a RawLookup) -> Option<&'a Place> {
+    fn first<'a>(&self, lookup: &'a RawLookup) -> Option<&'a JsonPointer> {
         let join = &lookup.join;
         place_unless(is_join(self.raw, lookup), &join.place)
     }
 }
 
-pub(crate) fn bad_join_place(raw: &RawDesc) -> Option<&Place>
+pub(crate) fn bad_join_place(raw: &RawDesc) -> Option<&JsonPointer>
     ensures { option_copied result ≡ first (bad_joins raw.now) }
 {
     let lookups = &raw.lookups;
     first_in(&BadJoin { raw }, lookups.items.as_slice())
 }
 
-pub(crate) fn bad_partition_place(raw: &RawDesc) -> Option<&Place>
+pub(crate) fn bad_partition_place(raw: &RawDesc) -> Option<&JsonPointer>
     ensures { option_copied result ≡ first (bad_partition raw.now) }
 {
     let partition = &raw.partition;

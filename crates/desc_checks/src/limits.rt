@@ -8,7 +8,7 @@ ghost use Rattle.desc_checks.specs.Firsts.{first, unless};
 ghost use Rattle.desc_checks.specs.Limits.{is_some_up_to, table_too_many, too_many};
 
 use crate::check::{Check, first_in, or_first, place_unless};
-use desc_shape::{Place, RawDesc, RawTable};
+use descriptor_json::{JsonPointer, RawDesc, RawTable};
 
 /// The most columns of a table.
 const MOST_COLUMNS: usize = 64;
@@ -32,7 +32,7 @@ pub(crate) struct TooMany;
 impl Check<RawTable> for TooMany {
     ghost failing = { λ _ t. table_too_many t };
 
-    fn first<'a>(&self, table: &'a RawTable) -> Option<&'a Place> {
+    fn first<'a>(&self, table: &'a RawTable) -> Option<&'a JsonPointer> {
         let columns = &table.columns;
         place_unless(
             is_some_up_to(MOST_COLUMNS, columns.items.len()),
@@ -41,7 +41,7 @@ impl Check<RawTable> for TooMany {
     }
 }
 
-pub(crate) fn too_many_place(raw: &RawDesc) -> Option<&Place>
+pub(crate) fn too_many_place(raw: &RawDesc) -> Option<&JsonPointer>
     ensures { option_copied result ≡ first (too_many raw.now) }
 {
     let (lookups, measures) = (&raw.lookups, &raw.measures);

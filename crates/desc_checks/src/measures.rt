@@ -10,7 +10,7 @@ use crate::check::place_unless;
 use crate::columns::takes_column;
 use crate::tables::fact_columns;
 use crate::types::{is_number_type, type_of};
-use desc_shape::{Place, RawDesc, RawMeasure};
+use descriptor_json::{JsonPointer, RawDesc, RawMeasure};
 use std::alloc::{AllocError, Global};
 
 fn takes_one(measure: &RawMeasure) -> bool
@@ -66,7 +66,7 @@ impl<'r> Along<RawMeasure> for BadMeasure<'r> {
         _alloc: Global,
         is_new: bool,
         measure: &'a RawMeasure,
-    ) -> Result<Option<&'a Place>, AllocError> {
+    ) -> Result<Option<&'a JsonPointer>, AllocError> {
         Ok(place_unless(is_new && is_measure(self.raw, measure), &measure.place))
     }
 }
@@ -74,7 +74,7 @@ impl<'r> Along<RawMeasure> for BadMeasure<'r> {
 pub(crate) fn bad_measure_place<'a>(
     alloc: Global,
     raw: &'a RawDesc,
-) -> Result<Option<&'a Place>, AllocError>
+) -> Result<Option<&'a JsonPointer>, AllocError>
     ensures { IfOk result (λ o. option_copied o ≡ first (bad_measures raw.now)) }
 {
     let measures = &raw.measures;

@@ -9,8 +9,9 @@ ghost use Rattle.desc_checks.specs.Groups.{of_group};
 ghost use Rattle.desc_checks.specs.Names.{is_letter, is_name_byte, is_name, table_part, column_part, is_full_name, names_column, bad_name, bad_full_name, column_bad_names, table_bad_names, lookup_bad_names, dimension_bad_names, measure_bad_names, bad_names_of_tables, bad_names_of_columns, bad_names};
 
 use crate::check::{Check, InGroups, first_in, or_first, place_unless};
-use desc_shape::{
-    Place, RawColumn, RawDesc, RawDimension, RawLookup, RawMeasure, RawName, RawNamed, RawTable,
+use descriptor_json::{
+    JsonPointer, RawColumn, RawDesc, RawDimension, RawLookup, RawMeasure, RawName, RawNamed,
+    RawTable,
 };
 
 /// The most bytes of a name.
@@ -79,7 +80,7 @@ pub(crate) struct BadName;
 impl Check<RawName> for BadName {
     ghost failing = { λ _ t. bad_name t };
 
-    fn first<'a>(&self, name: &'a RawName) -> Option<&'a Place> {
+    fn first<'a>(&self, name: &'a RawName) -> Option<&'a JsonPointer> {
         place_unless(is_name(name.text.bytes()), &name.place)
     }
 }
@@ -87,7 +88,7 @@ impl Check<RawName> for BadName {
 impl Check<RawColumn> for BadName {
     ghost failing = { λ _ c. column_bad_names c };
 
-    fn first<'a>(&self, column: &'a RawColumn) -> Option<&'a Place> {
+    fn first<'a>(&self, column: &'a RawColumn) -> Option<&'a JsonPointer> {
         self.first(&column.name)
     }
 }
@@ -95,7 +96,7 @@ impl Check<RawColumn> for BadName {
 impl Check<RawTable> for BadName {
     ghost failing = { λ _ t. table_bad_names t };
 
-    fn first<'a>(&self, table: &'a RawTable) -> Option<&'a Place> {
+    fn first<'a>(&self, table: &'a RawTable) -> Option<&'a JsonPointer> {
         let columns = &table.columns;
         or_first(
             self.first(&table.name),
@@ -107,7 +108,7 @@ impl Check<RawTable> for BadName {
 impl Check<RawLookup> for BadName {
     ghost failing = { λ _ l. lookup_bad_names l };
 
-    fn first<'a>(&self, lookup: &'a RawLookup) -> Option<&'a Place> {
+    fn first<'a>(&self, lookup: &'a RawLookup) -> Option<&'a JsonPointer> {
         let join = &lookup.join;
         let to_primary = or_first(
             self.first(&lookup.table),
@@ -120,7 +121,7 @@ impl Check<RawLookup> for BadName {
 impl Check<RawDimension> for BadName {
     ghost failing = { λ _ d. dimension_bad_names d };
 
-    fn first<'a>(&self, dimension: &'a RawDimension) -> Option<&'a Place> {
+    fn first<'a>(&self, dimension: &'a RawDimension) -> Option<&'a JsonPointer> {
         or_first(
             self.first(&dimension.table),
             match &dimension.named {
@@ -134,7 +135,7 @@ impl Check<RawDimension> for BadName {
 impl Check<RawMeasure> for BadName {
     ghost failing = { λ _ m. measure_bad_names m };
 
-    fn first<'a>(&self, measure: &'a RawMeasure) -> Option<&'a Place> {
+    fn first<'a>(&self, measure: &'a RawMeasure) -> Option<&'a JsonPointer> {
         self.first(&measure.name)
     }
 }
@@ -145,12 +146,12 @@ pub(crate) struct BadFullName;
 impl Check<RawName> for BadFullName {
     ghost failing = { λ _ t. bad_full_name t };
 
-    fn first<'a>(&self, text: &'a RawName) -> Option<&'a Place> {
+    fn first<'a>(&self, text: &'a RawName) -> Option<&'a JsonPointer> {
         place_unless(is_full_name(text.text.bytes()), &text.place)
     }
 }
 
-fn place_in_tables(raw: &RawDesc) -> Option<&Place>
+fn place_in_tables(raw: &RawDesc) -> Option<&JsonPointer>
     ensures { option_copied result ≡ first (bad_names_of_tables raw.now) }
 {
     let (tables, lookups) = (&raw.tables, &raw.lookups);
@@ -162,7 +163,7 @@ fn place_in_tables(raw: &RawDesc) -> Option<&Place>
     or_first(to_fact, first_in(&BadName, lookups.items.as_slice()))
 }
 
-fn place_in_columns(raw: &RawDesc) -> Option<&Place>
+fn place_in_columns(raw: &RawDesc) -> Option<&JsonPointer>
     ensures { option_copied result ≡ first (bad_names_of_columns raw.now) }
 {
     let (measures, rowkey) = (&raw.measures, &raw.rowkey);
@@ -174,7 +175,7 @@ fn place_in_columns(raw: &RawDesc) -> Option<&Place>
     or_first(to_measures, first_in(&BadFullName, rowkey.items.as_slice()))
 }
 
-pub(crate) fn bad_name_place(raw: &RawDesc) -> Option<&Place>
+pub(crate) fn bad_name_place(raw: &RawDesc) -> Option<&JsonPointer>
     ensures { option_copied result ≡ first (bad_names raw.now) }
 {
     let groups = &raw.groups;

@@ -12,8 +12,9 @@ use crate::along::{Along, first_along, first_from_start};
 use crate::check::{or_first, place_unless};
 use crate::seen::Seen;
 use cube_val::NameText;
-use desc_shape::{
-    Place, RawColumn, RawDesc, RawDimension, RawLookup, RawMeasure, RawName, RawNamed, RawTable,
+use descriptor_json::{
+    JsonPointer, RawColumn, RawDesc, RawDimension, RawLookup, RawMeasure, RawName, RawNamed,
+    RawTable,
 };
 use std::alloc::{AllocError, Global};
 
@@ -40,7 +41,7 @@ impl Along<RawColumn> for Twice {
         _alloc: Global,
         is_new: bool,
         column: &'a RawColumn,
-    ) -> Result<Option<&'a Place>, AllocError> {
+    ) -> Result<Option<&'a JsonPointer>, AllocError> {
         Ok(place_unless(is_new, &column.place))
     }
 }
@@ -60,7 +61,7 @@ impl Along<RawTable> for Twice {
         alloc: Global,
         is_new: bool,
         table: &'a RawTable,
-    ) -> Result<Option<&'a Place>, AllocError> {
+    ) -> Result<Option<&'a JsonPointer>, AllocError> {
         let columns = &table.columns;
         let in_columns = first_from_start(alloc, self, columns.items.as_slice())?;
         Ok(or_first(place_unless(is_new, &table.place), in_columns))
@@ -82,7 +83,7 @@ impl Along<RawLookup> for Twice {
         _alloc: Global,
         is_new: bool,
         lookup: &'a RawLookup,
-    ) -> Result<Option<&'a Place>, AllocError> {
+    ) -> Result<Option<&'a JsonPointer>, AllocError> {
         Ok(place_unless(is_new, &lookup.place))
     }
 }
@@ -101,7 +102,7 @@ impl Along<RawName> for Twice {
         _alloc: Global,
         is_new: bool,
         name: &'a RawName,
-    ) -> Result<Option<&'a Place>, AllocError> {
+    ) -> Result<Option<&'a JsonPointer>, AllocError> {
         Ok(place_unless(is_new, &name.place))
     }
 }
@@ -121,7 +122,7 @@ impl Along<RawMeasure> for Twice {
         _alloc: Global,
         is_new: bool,
         measure: &'a RawMeasure,
-    ) -> Result<Option<&'a Place>, AllocError> {
+    ) -> Result<Option<&'a JsonPointer>, AllocError> {
         Ok(place_unless(is_new, &measure.place))
     }
 }
@@ -131,7 +132,7 @@ fn in_table(
     alloc: Global,
     table: &RawName,
     name: &RawName,
-    place: &Place,
+    place: &JsonPointer,
 ) -> Result<RawName, AllocError>
     ensures { IfOk result (λ t. t ≡ in_table table.now name.now place.now) }
 {
@@ -187,7 +188,7 @@ fn columns_of(alloc: Global, dimensions: &[RawDimension]) -> Result<Vec<RawName>
     Ok(columns)
 }
 
-fn lookups_place<'a>(alloc: Global, raw: &'a RawDesc) -> Result<Option<&'a Place>, AllocError>
+fn lookups_place<'a>(alloc: Global, raw: &'a RawDesc) -> Result<Option<&'a JsonPointer>, AllocError>
     ensures { IfOk result (λ o. option_copied o ≡ first (along lookup_name lookup_twice (raw.now.fact_table.text ∷ []) raw.now.lookups.items)) }
 {
     let (fact, lookups) = (&raw.fact_table, &raw.lookups);
@@ -197,7 +198,7 @@ fn lookups_place<'a>(alloc: Global, raw: &'a RawDesc) -> Result<Option<&'a Place
     first_along(alloc, &Twice, seen, lookups.items.as_slice())
 }
 
-fn tables_place<'a>(alloc: Global, raw: &'a RawDesc) -> Result<Option<&'a Place>, AllocError>
+fn tables_place<'a>(alloc: Global, raw: &'a RawDesc) -> Result<Option<&'a JsonPointer>, AllocError>
     ensures { IfOk result (λ o. option_copied o ≡ first (tables_twice raw.now)) }
 {
     let in_tables = first_from_start(alloc, &Twice, raw.tables.as_slice())?;
@@ -206,7 +207,10 @@ fn tables_place<'a>(alloc: Global, raw: &'a RawDesc) -> Result<Option<&'a Place>
 }
 
 /// The place, as one of its own.
-pub(crate) fn owned(alloc: Global, place: Option<&Place>) -> Result<Option<Place>, AllocError>
+pub(crate) fn owned(
+    alloc: Global,
+    place: Option<&JsonPointer>,
+) -> Result<Option<JsonPointer>, AllocError>
     ensures { IfOk result (λ o. o ≡ option_copied place.entry) }
 {
     match place {
@@ -218,7 +222,7 @@ pub(crate) fn owned(alloc: Global, place: Option<&Place>) -> Result<Option<Place
     }
 }
 
-fn dimensions_place(alloc: Global, raw: &RawDesc) -> Result<Option<Place>, AllocError>
+fn dimensions_place(alloc: Global, raw: &RawDesc) -> Result<Option<JsonPointer>, AllocError>
     ensures { IfOk result (λ o. o ≡ first (dimensions_twice raw.now)) }
 {
     let columns = columns_of(alloc, raw.dimensions.as_slice())?;
@@ -227,7 +231,10 @@ fn dimensions_place(alloc: Global, raw: &RawDesc) -> Result<Option<Place>, Alloc
     Ok(own)
 }
 
-fn measures_place<'a>(alloc: Global, raw: &'a RawDesc) -> Result<Option<&'a Place>, AllocError>
+fn measures_place<'a>(
+    alloc: Global,
+    raw: &'a RawDesc,
+) -> Result<Option<&'a JsonPointer>, AllocError>
     ensures { IfOk result (λ o. option_copied o ≡ first (measures_twice raw.now)) }
 {
     let (measures, rowkey) = (&raw.measures, &raw.rowkey);
@@ -237,7 +244,7 @@ fn measures_place<'a>(alloc: Global, raw: &'a RawDesc) -> Result<Option<&'a Plac
 }
 
 /// The first place of a name that comes twice.
-pub(crate) fn twice_place(alloc: Global, raw: &RawDesc) -> Result<Option<Place>, AllocError>
+pub(crate) fn twice_place(alloc: Global, raw: &RawDesc) -> Result<Option<JsonPointer>, AllocError>
     ensures { IfOk result (λ o. o ≡ first (twice raw.now)) }
 {
     let in_tables = tables_place(alloc, raw)?;

@@ -10,7 +10,9 @@ ghost use Rattle.desc_checks.specs.Tables.{has_table, is_joined, columns_of, fac
 
 use crate::check::{Check, InGroups, first_in, or_first, place_unless};
 use crate::names::parts;
-use desc_shape::{Place, RawColumn, RawDesc, RawDimension, RawLookup, RawName, RawTable};
+use descriptor_json::{
+    JsonPointer, RawColumn, RawDesc, RawDimension, RawLookup, RawName, RawTable,
+};
 
 fn is_table(table: &RawTable, name: &[u8]) -> bool
     ensures { result ≡ bytes_eq table.now.name.text name.now }
@@ -90,7 +92,7 @@ pub(crate) struct NoTable<'a> {
 impl<'r> Check<RawName> for NoTable<'r> {
     ghost failing = { λ s t. no_table s.raw.now t };
 
-    fn first<'a>(&self, name: &'a RawName) -> Option<&'a Place> {
+    fn first<'a>(&self, name: &'a RawName) -> Option<&'a JsonPointer> {
         place_unless(has_table(self.raw, name.text.bytes()), &name.place)
     }
 }
@@ -98,7 +100,7 @@ impl<'r> Check<RawName> for NoTable<'r> {
 impl<'r> Check<RawLookup> for NoTable<'r> {
     ghost failing = { λ s l. lookup_no_table s.raw.now l };
 
-    fn first<'a>(&self, lookup: &'a RawLookup) -> Option<&'a Place> {
+    fn first<'a>(&self, lookup: &'a RawLookup) -> Option<&'a JsonPointer> {
         self.first(&lookup.table)
     }
 }
@@ -112,7 +114,7 @@ pub(crate) struct NotJoined<'a> {
 impl<'r> Check<RawDimension> for NotJoined<'r> {
     ghost failing = { λ s d. dimension_no_table s.raw.now d };
 
-    fn first<'a>(&self, dimension: &'a RawDimension) -> Option<&'a Place> {
+    fn first<'a>(&self, dimension: &'a RawDimension) -> Option<&'a JsonPointer> {
         let table = &dimension.table;
         let name = table.text.bytes();
         place_unless(
@@ -125,7 +127,7 @@ impl<'r> Check<RawDimension> for NotJoined<'r> {
 impl<'r> Check<RawName> for NotJoined<'r> {
     ghost failing = { λ s t. text_no_table s.raw.now t };
 
-    fn first<'a>(&self, text: &'a RawName) -> Option<&'a Place> {
+    fn first<'a>(&self, text: &'a RawName) -> Option<&'a JsonPointer> {
         let (name, _) = parts(text.text.bytes());
         place_unless(
             has_table(self.raw, name) && is_joined(self.raw, name),
@@ -134,7 +136,7 @@ impl<'r> Check<RawName> for NotJoined<'r> {
     }
 }
 
-pub(crate) fn no_table_place(raw: &RawDesc) -> Option<&Place>
+pub(crate) fn no_table_place(raw: &RawDesc) -> Option<&JsonPointer>
     ensures { option_copied result ≡ first (no_tables raw.now) }
 {
     let (lookups, rowkey, groups) = (&raw.lookups, &raw.rowkey, &raw.groups);

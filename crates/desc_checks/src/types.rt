@@ -8,7 +8,7 @@ ghost use Rattle.desc_checks.specs.Firsts.{first, unless};
 ghost use Rattle.desc_checks.specs.Types.{is_number_type, is_date_type, is_type, column_bad_type, table_bad_types, bad_types, type_of};
 
 use crate::check::{Check, first_in, place_unless};
-use desc_shape::{Place, RawColumn, RawDesc, RawTable};
+use descriptor_json::{JsonPointer, RawColumn, RawDesc, RawTable};
 
 pub(crate) fn is_number_type(text: &[u8]) -> bool
     ensures { result ≡ is_number_type text.now }
@@ -33,7 +33,7 @@ pub(crate) struct BadType;
 impl Check<RawColumn> for BadType {
     ghost failing = { λ _ c. column_bad_type c };
 
-    fn first<'a>(&self, column: &'a RawColumn) -> Option<&'a Place> {
+    fn first<'a>(&self, column: &'a RawColumn) -> Option<&'a JsonPointer> {
         let kind = &column.kind;
         place_unless(is_type(kind.text.bytes()), &kind.place)
     }
@@ -42,13 +42,13 @@ impl Check<RawColumn> for BadType {
 impl Check<RawTable> for BadType {
     ghost failing = { λ _ t. table_bad_types t };
 
-    fn first<'a>(&self, table: &'a RawTable) -> Option<&'a Place> {
+    fn first<'a>(&self, table: &'a RawTable) -> Option<&'a JsonPointer> {
         let columns = &table.columns;
         first_in(self, columns.items.as_slice())
     }
 }
 
-pub(crate) fn bad_type_place(raw: &RawDesc) -> Option<&Place>
+pub(crate) fn bad_type_place(raw: &RawDesc) -> Option<&JsonPointer>
     ensures { option_copied result ≡ first (bad_types raw.now) }
 {
     first_in(&BadType, raw.tables.as_slice())

@@ -4,7 +4,7 @@ use Rattle.byte_frame.specs.Reading.{all_of}
 use Rattle.plain_answer.specs.declared.answer.AnswerTable.{AnswerTable}
 use Rattle.plain_answer.specs.declared.ask.Ask.{Ask}
 use Rattle.plain_answer.specs.Answers.{plain_of}
-use Rattle.run_history.specs.Cubes.{Cube, Rows, Snapshot}
+use Rattle.run_history.specs.Cubes.{CubeSemantics, Rows, Snapshot}
 use Rattle.step_fields.specs.Fits.{FitsRows, IsDayRange}
 use Rattle.fixed_cube.specs.declared.task.FixedTask.TheVariants.{Flat}
 use Rattle.fixed_cube.specs.Cells.{Cell}
@@ -52,7 +52,7 @@ snapshot_of [] = first_snapshot []
 snapshot_of (part ∷ parts) = first_snapshot part
 
 -- the cube: one fact table, jobs of three steps, and no lookups
-abbrev pub fixed : Cube Ask AnswerTable
+abbrev pub fixed : CubeSemantics Ask AnswerTable
 fixed = record {
   tables = codes "F" ∷ [];
   steps = λ kind. 3;

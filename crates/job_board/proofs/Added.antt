@@ -11,7 +11,7 @@ use Rattle.fixed_state.specs.States.{FixedState, StandsFor, rows_seen}
 use Rattle.fixed_state.proofs.EndFacts.{kept_again}
 use Rattle.fixed_state.proofs.Events.{kept_ask, kept_claimed, kept_line, kept_load, kept_query_end, kept_steer, kept_submit, kept_taken}
 use Rattle.job_board.specs.Boards.{IsBoard}
-use Rattle.job_board.specs.Ledger.{Ledger, now}
+use Rattle.job_board.specs.BoardModel.{BoardModel, now}
 use Rattle.job_board.specs.Turns.{IsRecorded}
 use Rattle.job_board.specs.declared.turn.BoardTurn.TheVariants as turn
 use Rattle.job_board.specs.declared.turn.Log.{Log}
@@ -40,7 +40,7 @@ use Rattle.job_board.proofs.Calls.{attempts_few, in_flight_there, jobs_count, se
 use Rattle.job_board.proofs.Rest.{all_rest}
 use Rattle.job_board.proofs.Steps.{board_step, claims_now, fixed_now, named_verdict, noted_world, refused_world, small_now, sound_now, submitted_world, world_now}
 
-module _ (honest : Type 0) (workers room : ℕ) (names : List (List ℕ)) (s : FixedState) (log : Log) (l : Ledger) (e : record { workers = workers; log = log.turns.items; room = room; products = products_of s } ≡ l) (b : IsBoard honest workers room names s log) where
+module _ (honest : Type 0) (workers room : ℕ) (names : List (List ℕ)) (s : FixedState) (log : Log) (l : BoardModel) (e : record { workers = workers; log = log.turns.items; room = room; products = products_of s } ≡ l) (b : IsBoard honest workers room names s log) where
   abbrev pub w : World Query
   w = world_now honest workers room names s log
 
@@ -55,7 +55,7 @@ module _ (honest : Type 0) (workers room : ℕ) (names : List (List ℕ)) (s : F
   forth P h = subst P same_now h
 
   pub room_now : 0 < l.room → 0 < room
-  room_now h = let same : room ≡ l.room = ap (λ (x : Ledger). x.room) e in omega arith
+  room_now h = let same : room ≡ l.room = ap (λ (x : BoardModel). x.room) e in omega arith
 
   pub sound_here : IsSound fixed w
   sound_here = sound_now honest workers room names s log b

@@ -10,7 +10,7 @@ use Rattle.fixed_state.specs.States.{FixedEntry, FixedState, StandsFor, rows_see
 use Rattle.fixed_state.specs.Tasks.{snapshot_now, task_kept}
 use Rattle.fixed_state.proofs.Jobs.{fits_tables}
 use Rattle.fixed_state.proofs.TaskFacts.{next_of_build, task_is}
-use Rattle.job_board.specs.Ledger.{IsCountedAs, IsRecordedAs, ended_of}
+use Rattle.job_board.specs.BoardModel.{IsCountedAs, IsRecordedAs, ended_of}
 use Rattle.job_machine.specs.Job.{is_current}
 use Rattle.outside.specs.declared.hand.HandFault.{HandFault}
 use Rattle.outside.specs.declared.hand.HandFault.TheVariants as fault

@@ -12,7 +12,7 @@ use Rattle.fixed_cube.specs.Cube.{FitsSnapshot}
 use Rattle.fixed_state.specs.Kept.{AreKept, IsReadyKept}
 use Rattle.fixed_state.specs.Ready.{AreCellsOf, base_of_segment}
 use Rattle.fixed_state.specs.States.{FixedState, StandsFor}
-use Rattle.job_board.specs.Ledger.{is_free, next_query}
+use Rattle.job_board.specs.BoardModel.{is_free, next_query}
 use Rattle.plain_answer.specs.declared.ask.Ask.{Ask as Query}
 use Rattle.run_history.specs.Histories.{IsFresh, IsInFlight, IsLawful, claim_count}
 use Rattle.run_history.specs.Sets.{ReadySet}

@@ -1,4 +1,4 @@
 pub mod Turns
-pub mod Ledger
+pub mod BoardModel
 pub mod Boards
 pub mod Examples

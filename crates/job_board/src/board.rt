@@ -10,7 +10,7 @@ ghost use Rattle.fixed_cube.specs.Answers.{by_first};
 ghost use Rattle.fixed_state.specs.Ends.{IsProductOf, ended_at, kept_of, products_after};
 ghost use Rattle.fixed_state.specs.Ready.{AreCellsOf};
 ghost use Rattle.fixed_state.specs.States.{rows_seen};
-ghost use Rattle.job_board.specs.Ledger.{IfRefused, IsAdded, IsRecordedAs, IsSame, counts, ended_of, next_query, now, task_of, turns};
+ghost use Rattle.job_board.specs.BoardModel.{IfRefused, IsAdded, IsRecordedAs, IsSame, counts, ended_of, next_query, now, task_of, turns};
 ghost use Rattle.job_machine.specs.Job.{JobRecord, is_current, is_last_step};
 ghost use Rattle.job_machine.specs.declared.state.JobKind.TheVariants.{Build};
 ghost use Rattle.run_history.specs.Commands.{event_of};
@@ -61,11 +61,11 @@ pub struct Board<H: Honest> {
 }
 
 impl<H: Honest> Model for Board<H> {
-    ghost use Rattle.job_board.specs.Ledger.{Ledger};
+    ghost use Rattle.job_board.specs.BoardModel.{BoardModel};
     ghost use Rattle.job_board.specs.Boards.{IsBoard};
     ghost use Rattle.run_state.specs.Orders.{products_of};
 
-    ghost Value = { Ledger };
+    ghost Value = { BoardModel };
 
     ghost view = { λ b. record { workers = b.workers; log = b.log.turns.items; room = b.room; products = products_of b.state } };
 
@@ -263,7 +263,7 @@ impl<H: Honest> Board<H> {
         ensures added { IsAdded self.old (Takes line (Steer control job)) self.new }
         ensures products { self.new.products ≡ self.old.products }
     {
-        let answer = run_state::steer(&mut self.state, line, control, job);
+        let answer = run_state::control_job(&mut self.state, line, control, job);
         record_turn(&mut self.log, BoardTurn::Steers(line, control, job));
         self.room = 0;
         answer

@@ -6,7 +6,7 @@ ghost use Rattle.run_history.specs.Commands.{event_of};
 ghost use Rattle.run_history.specs.declared.event.Event.TheVariants as event;
 ghost use Rattle.run_history.specs.declared.event.Outcome.TheVariants.{Done, Killed};
 ghost use Rattle.job_board.specs.Examples.{first_in_flight, second_attempt, three_waiting};
-ghost use Rattle.job_board.specs.Ledger.{ended_of, next_query};
+ghost use Rattle.job_board.specs.BoardModel.{ended_of, next_query};
 ghost use Rattle.job_board.specs.Turns.{turn_of};
 ghost use Rattle.job_board.specs.declared.turn.BoardTurn.TheVariants as turn;
 

@@ -1,7 +1,7 @@
 //! The job board over the fixed cube: the coordinator's state, with one call for each event, and the history that gives it.
 //!
 //! A [`Board`] stands above the bookkeeping of `run_state` and what `fixed_state` keeps of the cube, and below the coordinator. Contracts
-//! see its [`Board`] as a `Ledger`: the number of workers, the turns so far with their commands, the room that is reserved, and the products
+//! see its [`Board`] as a `BoardModel`: the number of workers, the turns so far with their commands, the room that is reserved, and the products
 //! that are kept of the steps done; `now` of it is the world of those turns. Each call adds exactly the one turn that it names, a
 //! refused command too; the turns are always a legal history, and fresh ([`Board::history`]).
 //!

@@ -2,7 +2,7 @@
 
 ghost use Rattle.std.specs.Prelude.{◌<◌, IfOk};
 ghost use Rattle.fixed_cube.specs.Columns.{fact_columns, row_limit};
-ghost use Rattle.job_board.specs.Ledger.{now};
+ghost use Rattle.job_board.specs.BoardModel.{now};
 ghost use Rattle.step_fields.specs.Fits.{FitsRows};
 
 mod calls;
@@ -132,7 +132,7 @@ fn build(rt: &impl Abort, desk: &mut Desk, days: Days, wanted: Result<u32, Refus
     }
 }
 
-fn steer(
+fn control_job(
     rt: &impl Abort,
     desk: &mut Desk,
     control: Control,
@@ -270,7 +270,7 @@ fn agrees<R: Abort + Threads + Sync>(
     match call {
         Call::Load(facts) => load(rt, desk, alloc, facts),
         Call::Build(days, wanted) => Ok(build(rt, desk, days, wanted)),
-        Call::Steer(control, job, wanted) => Ok(steer(rt, desk, control, job, wanted)),
+        Call::Steer(control, job, wanted) => Ok(control_job(rt, desk, control, job, wanted)),
         Call::Note(noted, may) => Ok(note(rt, desk, noted, may)),
         Call::Ask(session) => {
             let line = next_line(rt, &desk.board);

@@ -8,7 +8,7 @@ use Rattle.job_machine.specs.declared.state.Ended.TheVariants as ended
 use Rattle.run_history.specs.Commands.{Command, Turn}
 use Rattle.run_history.specs.Commands.Command.{Load, Submit, Drop, Steer, Ask, Note}
 use Rattle.run_history.specs.Commands.Turn.{Takes, Claims, StepEnds, QueryTakes, QueryEnds}
-use Rattle.run_history.specs.Cubes.{Cube}
+use Rattle.run_history.specs.Cubes.{CubeSemantics}
 use Rattle.run_history.specs.Histories.{Along, Allowed, IsNextAttempt, claim_count}
 use Rattle.run_history.specs.Invariants.{HasSteps, IsSound, AreClaims, claims_of}
 use Rattle.run_history.specs.Steps.{step, world, with_job, end_by, without_claim, steered, accepted, claimed, ended_as, step_ended, query_taken, query_ended, by_verdict, steps_of}
@@ -172,7 +172,7 @@ module _ (jobs : List Submitted) (claims : List (ℕ × ℕ)) (n attempt : ℕ) 
   claims_job None at h = absurd (omega (arith, open_claim, h.each_once n attempt, ap (λ (x : Option Submitted). claims_of x attempt) at))
   claims_job (Some s) at h = (s, at)
 
-module _ {Query Answer : Type 0} (cube : Cube Query Answer) where
+module _ {Query Answer : Type 0} (cube : CubeSemantics Query Answer) where
   abbrev HasClaims : World Query → Type 0
   HasClaims w = AreClaims w.jobs w.steps
 

@@ -10,7 +10,7 @@ use Rattle.run_history.specs.Bounds.{AreAtMost}
 use Rattle.run_history.specs.Commands.{Command, Turn}
 use Rattle.run_history.specs.Commands.Command.{Load, Submit, Drop, Steer, Ask, Note}
 use Rattle.run_history.specs.Commands.Turn.{Takes, Claims, StepEnds, QueryTakes, QueryEnds}
-use Rattle.run_history.specs.Cubes.{Cube}
+use Rattle.run_history.specs.Cubes.{CubeSemantics}
 use Rattle.run_history.specs.Steps.{accepted, by_verdict, claimed, end_by, ended_as, query_ended, query_taken, step, step_ended, steered, steps_of, with_job, without_claim}
 use Rattle.run_history.specs.Verdicts.{act_of, verdict}
 use Rattle.run_history.specs.World.{Asked, Submitted, Waiting, World, job_at, job_of, start}
@@ -131,7 +131,7 @@ module _ {Query : Type 0} where
   grown_answered most w line out None h = more most w h
   grown_answered most w line out (Some q) h = let g = more most w h in record { jobs = g.jobs; attempts = g.attempts; versions = g.versions; accepted = g.accepted }
 
-module _ {Query Answer : Type 0} (cube : Cube Query Answer) where
+module _ {Query Answer : Type 0} (cube : CubeSemantics Query Answer) where
   grown_step : (most : ℕ) (w : World Query) (turn : Turn Query) → AreAtMost most w → AreAtMost (most + 1) (step cube w turn)
   grown_step most w (Takes line command) h = grown_verdict most (steps_of cube command) line w command (verdict cube w command) h
   grown_step most w (Claims n attempt) h = grown_claimed most w n attempt (job_of w n) refl h

@@ -6,7 +6,7 @@ use Rattle.std.proofs.lemmas.Bool.{cases_lt, and_parts, and_from, leb-false, eqb
 use Rattle.job_machine.specs.declared.state.JobKind.{JobKind}
 use Rattle.job_machine.specs.declared.state.JobKind.TheVariants.{Build, Refresh, Merge}
 use Rattle.range_list.specs.Ranges.{Interval, IsRange, EndToEnd}
-use Rattle.run_history.specs.Cubes.{Cube}
+use Rattle.run_history.specs.Cubes.{CubeSemantics}
 use Rattle.run_history.specs.Invariants.{ranges_of, CanMerge, IsInPlace}
 use Rattle.run_history.specs.Sets.{Segment, ReadySet, is_same_range, is_inside, is_overlap, inside, outside, swapped, dropped}
 use Rattle.run_history.specs.Verdicts.{first_of, refused_if, is_on_bounds, is_ready, is_held, days_from, first_free_day, submit_refusals, most_segments, not_loaded, too_many_segments, overlaps_segment, overlaps_job, no_such_segment, hole, lookups_differ}
@@ -47,7 +47,7 @@ inside_swapped r new set hr hx e h =
     inside_placed r new (outside new.range set) (filter_apart (λ s. not (is_inside new.range s.range)) set h) (apart_inside new.range r hx hr (overlap_sym new.range r ∙ e))
     ∙ filter_twice (λ s. is_inside r s.range) (λ s. not (is_inside new.range s.range)) set (kept_outside r new.range set e h)
 
-module _ {Query Answer : Type 0} (cube : Cube Query Answer) where
+module _ {Query Answer : Type 0} (cube : CubeSemantics Query Answer) where
   merge_same : (r : Interval) (set set2 : ReadySet) → inside r set2 ≡ inside r set → CanMerge cube r set → CanMerge cube r set2
   merge_same r set set2 e h = record {
     filled = subst (λ (l : ReadySet). EndToEnd r.start r.end (ranges_of l)) (sym e) h.filled;
@@ -121,7 +121,7 @@ held_from set (suc count) day h d low high =
 no_free_day : (r : Interval) (set : ReadySet) → IsRange r → first_free_day r set ≡ None → HoldsDays r.start r.end set
 no_free_day r set range h d low high = held_from set (r.end - r.start) r.start (find_none (λ day. not (is_held set day)) (days_from r.start (r.end - r.start)) h) d low (omega arith)
 
-module _ {Query Answer : Type 0} (cube : Cube Query Answer) where
+module _ {Query Answer : Type 0} (cube : CubeSemantics Query Answer) where
   -- what an accepted submission finds
   pub record Found (kind : JobKind) (r : Interval) (w : World Query) : Type 0 where
     pub place : IsInPlace cube kind r w.ready

@@ -12,7 +12,7 @@ use Rattle.range_list.specs.Ranges.{Interval}
 use Rattle.run_history.specs.Commands.{Command, Turn}
 use Rattle.run_history.specs.Commands.Command.{Load, Submit, Drop, Steer, Ask, Note}
 use Rattle.run_history.specs.Commands.Turn.{Takes, Claims, StepEnds, QueryTakes, QueryEnds}
-use Rattle.run_history.specs.Cubes.{Cube, Rows, Snapshot}
+use Rattle.run_history.specs.Cubes.{CubeSemantics, Rows, Snapshot}
 use Rattle.run_history.specs.Histories.{Along, Allowed, IsFresh, IsLawful}
 use Rattle.run_history.specs.Invariants.{HasSteps, IsSound}
 use Rattle.run_history.specs.Kept.{IsKept, ends_query, IsJobKept}
@@ -179,14 +179,14 @@ module _ {Query : Type 0} where
   }
 
   -- so while an attempt counts, the task of the job's next step stays, whatever the cube
-  pub task_kept : {Answer : Type 0} (cube : Cube Query Answer) (old new : World Query) (s t : Submitted) (attempt : ℕ) → IsJobKept old new s t → attempt ≤ s.job.attempt → is_current t.job attempt ≡ true
+  pub task_kept : {Answer : Type 0} (cube : CubeSemantics Query Answer) (old new : World Query) (s t : Submitted) (attempt : ℕ) → IsJobKept old new s t → attempt ≤ s.job.attempt → is_current t.job attempt ≡ true
       → next_task cube new t ≡ next_task cube old s
   task_kept cube old new s t attempt h le current =
       let same = h.work attempt le current in
       ap (λ (k : JobKind). cube.task k (parts_of new t) t.job.done) h.kind ∙ ap (λ (parts : List (List Snapshot)). cube.task s.job.kind parts t.job.done) same.parts
       ∙ ap (λ (n : ℕ). cube.task s.job.kind (parts_of old s) n) same.done
 
-module _ {Query Answer : Type 0} (cube : Cube Query Answer) where
+module _ {Query Answer : Type 0} (cube : CubeSemantics Query Answer) where
   sound_tables : (w : World Query) → IsSound cube w → HaveTables w
   sound_tables w i n s e flight = (i.numbered n s e).snapshot flight
 
@@ -369,7 +369,7 @@ module _ {Query : Type 0} where
   rises_no_answer w line session None = omega arith
   rises_no_answer w line session (Some q) = omega arith
 
-module _ {Query Answer : Type 0} (cube : Cube Query Answer) where
+module _ {Query Answer : Type 0} (cube : CubeSemantics Query Answer) where
   -- a query in flight stays until its end
   pub query_stays : (w : World Query) (turn : Turn Query) (line : ℕ) (q : Asked Query) → ends_query line turn ≡ false → find (λ other. other.waiting.line == line) w.asked ≡ Some q
       → find (λ other. other.waiting.line == line) (step cube w turn).asked ≡ Some q

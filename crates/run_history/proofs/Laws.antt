@@ -3,7 +3,7 @@ use Rattle.std.proofs.Common.{◌≡◌, ◌≢◌, ℕ, zero, suc, ◌+◌, ◌
 use Rattle.std.proofs.lemmas.Bool.{and_parts, eqb-true}
 use Rattle.std.proofs.lemmas.List.Sums.{fold-append, sum_by-cons, sum_by_push}
 use Rattle.run_history.specs.Commands.{Turn}
-use Rattle.run_history.specs.Cubes.{Cube}
+use Rattle.run_history.specs.Cubes.{CubeSemantics}
 use Rattle.run_history.specs.Sets.{ReadySet}
 use Rattle.run_history.specs.Steps.{step, world, with_job, with_set, without_claim}
 use Rattle.run_history.specs.Histories.{Along, Allowed, claim_count}
@@ -11,7 +11,7 @@ use Rattle.run_history.specs.World.{Submitted, World, start, number, set_at, job
 
 -- ---- histories
 
-module _ {Query Answer : Type 0} (cube : Cube Query Answer) where
+module _ {Query Answer : Type 0} (cube : CubeSemantics Query Answer) where
   pub world-push : (workers : ℕ) (turns : List (Turn Query)) (turn : Turn Query) → world cube workers (turns ++ turn ∷ []) ≡ step cube (world cube workers turns) turn
   world-push workers turns turn = fold-append (step cube) (start workers (length cube.tables)) turns (turn ∷ [])
 

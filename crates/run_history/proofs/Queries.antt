@@ -7,7 +7,7 @@ use Rattle.job_machine.specs.declared.state.Ended.TheVariants as ended
 use Rattle.run_history.specs.Commands.{Command, Turn}
 use Rattle.run_history.specs.Commands.Command.{Load, Submit, Drop, Steer, Ask, Note}
 use Rattle.run_history.specs.Commands.Turn.{Takes, Claims, StepEnds, QueryTakes, QueryEnds}
-use Rattle.run_history.specs.Cubes.{Cube}
+use Rattle.run_history.specs.Cubes.{CubeSemantics}
 use Rattle.run_history.specs.Histories.{Along, Allowed, IsFresh, IsLawful, IsNextOfSession}
 use Rattle.run_history.specs.Invariants.{AreQueries}
 use Rattle.run_history.specs.Steps.{step, world, end_by, without_claim, steered, accepted, claimed, ended_as, step_ended, query_taken, query_ended, answered_as, by_verdict, steps_of}
@@ -194,7 +194,7 @@ module _ {Query : Type 0} where
       let k = every_find (IsTaken w.answered (number w)) (is_query line) w.asked q (from_all (IsTaken w.answered (number w)) w.asked h.takes) e in
       (k.0, omega arith, k.1, k.2)
 
-module _ {Query Answer : Type 0} (cube : Cube Query Answer) where
+module _ {Query Answer : Type 0} (cube : CubeSemantics Query Answer) where
   keeps_versions : (w : World Query) (turn : Turn Query) → Allowed w turn × IsFresh w turn → HaveVersions w → HaveVersions (step cube w turn)
   keeps_versions w (Takes line command) a h = versions_verdict (record w { line = line }) (steps_of cube command) command (verdict cube w command) h
   keeps_versions w (Claims n attempt) a h = versions_claimed w n attempt (job_of w n) h

@@ -3,7 +3,7 @@ use Rattle.std.proofs.Common.{◌≡◌, ℕ, zero, suc, ◌+◌, ◌<◌, ◌�
 use Rattle.std.specs.Prelude.{find, nat_le, option_map}
 use Rattle.std.proofs.lemmas.Bool.{and_parts, and_from, leb-true, le-leb}
 use Rattle.range_list.specs.Ranges.{Interval}
-use Rattle.run_history.specs.Cubes.{Cube}
+use Rattle.run_history.specs.Cubes.{CubeSemantics}
 use Rattle.run_history.specs.Invariants.{IsSound, IsLeastOverlap}
 use Rattle.run_history.specs.Sets.{is_inside, is_overlap}
 use Rattle.run_history.specs.Verdicts.{refused_if, most_segments, too_many_segments, overlaps_job}
@@ -43,7 +43,7 @@ first_found : {X : Type 0} (test : X → Bool) (xs : List X) (x : X) → find te
 first_found test [] x e = cc
 first_found test (y ∷ xs) x e = first_by test y xs x (test y) refl (first_found test xs x) e
 
-module _ {Query Answer : Type 0} (cube : Cube Query Answer) where
+module _ {Query Answer : Type 0} (cube : CubeSemantics Query Answer) where
   pub full_exactly : (w : World Query) → IsSound cube w → (too_many_segments cube w ≡ Some refused.TooManySegments) ↔ (length w.ready + live_builds w.jobs ≡ most_segments)
   full_exactly w i = (
     (λ h. (let le = leb-true most_segments (length w.ready + live_builds w.jobs) (if_true (nat_le most_segments (length w.ready + live_builds w.jobs)) refused.TooManySegments refused.TooManySegments h) in omega (arith, i.room))),

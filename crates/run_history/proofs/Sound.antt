@@ -14,7 +14,7 @@ use Rattle.range_list.specs.Ranges.{Interval, IsRange, IsApart}
 use Rattle.run_history.specs.Commands.{Command, Turn}
 use Rattle.run_history.specs.Commands.Command.{Load, Submit, Drop, Steer, Ask, Note}
 use Rattle.run_history.specs.Commands.Turn.{Takes, Claims, StepEnds, QueryTakes, QueryEnds}
-use Rattle.run_history.specs.Cubes.{Cube}
+use Rattle.run_history.specs.Cubes.{CubeSemantics}
 use Rattle.run_history.specs.Histories.{Along, Allowed, MayTake}
 use Rattle.run_history.specs.Invariants.{HasSteps, ranges_of, IsInPlace, places_of, IsSubmitted, AreSound, IsSound}
 use Rattle.run_history.specs.Sets.{Segment, ReadySet, is_same_range, is_overlap, inside, swapped, dropped}
@@ -171,7 +171,7 @@ queued_set jobs queue queue2 n s t at h others here m =
 
 -- ---- events
 
-module _ {Query Answer : Type 0} (cube : Cube Query Answer) where
+module _ {Query Answer : Type 0} (cube : CubeSemantics Query Answer) where
   -- jobs move on: the ready sets stay
   moved_on : (jobs jobs2 : List Submitted) (queue queue2 : List ℕ) (past : List ReadySet) (ready : ReadySet) → AreFollowed jobs jobs2 → live_builds jobs2 ≤ live_builds jobs
       → ((n : ℕ) → queue_count n queue2 ≡ places_of (job_at jobs2 n)) → AreSound cube jobs queue past ready → AreSound cube jobs2 queue2 past ready

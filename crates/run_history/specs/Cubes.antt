@@ -17,7 +17,7 @@ pub record Snapshot : Type 0 where
 -- next step of a job of this kind, made of the snapshots of each part, of which so many steps are done; the product of a task; whether
 -- bytes are a product of a task; the joined rows of a snapshot; the answer to a query over rows; and the first lookup with a derived
 -- column whose rows differ between parts, by its name
-pub record Cube (Query Answer : Type 0) : Type 0 where
+pub record CubeSemantics (Query Answer : Type 0) : Type 0 where
   pub tables : List (List ℕ)
   pub steps : JobKind → ℕ
   pub task : JobKind → List (List Snapshot) → ℕ → List ℕ

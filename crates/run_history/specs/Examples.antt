@@ -8,7 +8,7 @@ use Rattle.range_list.specs.Ranges.{Interval}
 use Rattle.run_history.specs.Commands.{Turn}
 use Rattle.run_history.specs.Commands.Command.{Load, Submit, Drop, Steer, Ask, Note}
 use Rattle.run_history.specs.Commands.Turn.{Takes, Claims, StepEnds, QueryTakes, QueryEnds}
-use Rattle.run_history.specs.Cubes.{Cube, Rows}
+use Rattle.run_history.specs.Cubes.{CubeSemantics, Rows}
 use Rattle.run_history.specs.Sets.{rows_of}
 use Rattle.run_history.specs.Steps.{world}
 use Rattle.run_history.specs.World.{World, set_at}
@@ -18,7 +18,7 @@ use Rattle.run_history.specs.declared.event.Outcome.TheVariants.{Done, Killed}
 use Rattle.run_history.specs.declared.event.QueryOut.TheVariants.{Answered}
 
 -- one table, two steps a job, and a query that counts rows
-abbrev pub counting : Cube ℕ ℕ
+abbrev pub counting : CubeSemantics ℕ ℕ
 counting = record {
   tables = codes "F" ∷ [];
   steps = λ kind. 2;

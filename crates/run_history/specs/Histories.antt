@@ -5,7 +5,7 @@ use Rattle.range_list.specs.Ranges.{IsRange}
 use Rattle.run_history.specs.Commands.{Command, Turn}
 use Rattle.run_history.specs.Commands.Command.{Load, Submit, Drop, Steer, Ask, Note}
 use Rattle.run_history.specs.Commands.Turn.{Takes, Claims, StepEnds, QueryTakes, QueryEnds}
-use Rattle.run_history.specs.Cubes.{Cube}
+use Rattle.run_history.specs.Cubes.{CubeSemantics}
 use Rattle.run_history.specs.Steps.{step}
 use Rattle.run_history.specs.World.{Asked, Submitted, Waiting, World, busy, is_under_way, job_of, number, start}
 use Rattle.run_history.specs.declared.command.Noted.{Noted}
@@ -13,7 +13,7 @@ use Rattle.run_history.specs.declared.command.Noted.TheVariants.{AwaitJob, Await
 use Rattle.run_history.specs.declared.event.QueryOut.TheVariants.{Answered, Memory as NoAnswer}
 
 -- P holds of each turn, in the world before it
-abbrev pub Along : {Query Answer : Type 0} → Cube Query Answer → (World Query → Turn Query → Type 0) → World Query → List (Turn Query) → Type 0
+abbrev pub Along : {Query Answer : Type 0} → CubeSemantics Query Answer → (World Query → Turn Query → Type 0) → World Query → List (Turn Query) → Type 0
 Along cube P w [] = ⊤
 Along cube P w (turn ∷ turns) = P w turn × Along cube P (step cube w turn) turns
 
@@ -86,10 +86,10 @@ module _ {Query : Type 0} where
   IsFresh w (QueryEnds line NoAnswer) = ⊤
 
 -- a history from the start: every turn may come; and every answer's version is lawful
-abbrev pub IsLegal : {Query Answer : Type 0} → Cube Query Answer → ℕ → List (Turn Query) → Type 0
+abbrev pub IsLegal : {Query Answer : Type 0} → CubeSemantics Query Answer → ℕ → List (Turn Query) → Type 0
 IsLegal cube workers turns = Along cube Allowed (start workers (length cube.tables)) turns
 
-abbrev pub HasFreshAnswers : {Query Answer : Type 0} → Cube Query Answer → ℕ → List (Turn Query) → Type 0
+abbrev pub HasFreshAnswers : {Query Answer : Type 0} → CubeSemantics Query Answer → ℕ → List (Turn Query) → Type 0
 HasFreshAnswers cube workers turns = Along cube IsFresh (start workers (length cube.tables)) turns
 
 abbrev pub is_empty : {A : Type 0} → List A → Bool

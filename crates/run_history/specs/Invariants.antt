@@ -5,14 +5,14 @@ use Rattle.job_machine.specs.Job.{IsJob, is_claimable}
 use Rattle.job_machine.specs.declared.state.JobKind.{JobKind}
 use Rattle.job_machine.specs.declared.state.JobKind.TheVariants.{Build, Refresh, Merge}
 use Rattle.range_list.specs.Ranges.{Interval, IsRange, IsApart, EndToEnd}
-use Rattle.run_history.specs.Cubes.{Cube}
+use Rattle.run_history.specs.Cubes.{CubeSemantics}
 use Rattle.run_history.specs.Histories.{claim_count}
 use Rattle.run_history.specs.Sets.{ReadySet, inside, is_overlap}
 use Rattle.run_history.specs.Verdicts.{is_ready, most_segments}
 use Rattle.run_history.specs.World.{Submitted, World, is_live, job_at, live_builds, number, job_of}
 
 -- each kind of job has a step at least
-abbrev pub HasSteps : {Query Answer : Type 0} → Cube Query Answer → Type 0
+abbrev pub HasSteps : {Query Answer : Type 0} → CubeSemantics Query Answer → Type 0
 HasSteps cube = (kind : JobKind) → 0 < cube.steps kind
 
 -- the ranges of a set, in its order
@@ -20,14 +20,14 @@ abbrev pub ranges_of : ReadySet → List Interval
 ranges_of set = map (λ s. s.range) set
 
 -- the segments inside a range fill it end to end, are two at least, and have the same lookups
-pub record CanMerge {Query Answer : Type 0} (cube : Cube Query Answer) (r : Interval) (set : ReadySet) : Type 0 where
+pub record CanMerge {Query Answer : Type 0} (cube : CubeSemantics Query Answer) (r : Interval) (set : ReadySet) : Type 0 where
   pub filled : EndToEnd r.start r.end (ranges_of (inside r set))
   pub several : 2 ≤ length (inside r set)
   pub lookups : cube.lookup_that_differs (map (λ s. s.origin) (inside r set)) ≡ None
 
 -- how the range of a live job stands to the ready set: a BUILD's overlaps no segment, a REFRESH's is a segment's, a MERGE's is filled
 -- by several
-abbrev pub IsInPlace : {Query Answer : Type 0} → Cube Query Answer → JobKind → Interval → ReadySet → Type 0
+abbrev pub IsInPlace : {Query Answer : Type 0} → CubeSemantics Query Answer → JobKind → Interval → ReadySet → Type 0
 IsInPlace cube Build r set = list_any (λ s. is_overlap s.range r) set ≡ false
 IsInPlace cube Refresh r set = is_ready r set ≡ true
 IsInPlace cube Merge r set = CanMerge cube r set
@@ -45,7 +45,7 @@ pub record IsSubmitted (number : ℕ) (s : Submitted) : Type 0 where
   pub snapshot : s.job.in_flight ≡ true → is_some s.tables ≡ true
 
 -- jobs, queue and ready sets, as every legal history leaves them
-pub record AreSound {Query Answer : Type 0} (cube : Cube Query Answer) (jobs : List Submitted) (queue : List ℕ) (past : List ReadySet) (ready : ReadySet) : Type 0 where
+pub record AreSound {Query Answer : Type 0} (cube : CubeSemantics Query Answer) (jobs : List Submitted) (queue : List ℕ) (past : List ReadySet) (ready : ReadySet) : Type 0 where
   -- every set is apart, from the first to the last
   pub set_apart : (version : ℕ) → IsApart (ranges_of (unwrap_or (slice_get (past ++ ready ∷ []) version) []))
   pub ready_apart : IsApart (ranges_of ready)
@@ -62,7 +62,7 @@ pub record AreSound {Query Answer : Type 0} (cube : Cube Query Answer) (jobs : L
   pub queued : (n : ℕ) → count_by (λ other. other == n) queue ≡ places_of (job_at jobs n)
 
 -- the invariant of a run
-abbrev pub IsSound : {Query Answer : Type 0} → Cube Query Answer → World Query → Type 0
+abbrev pub IsSound : {Query Answer : Type 0} → CubeSemantics Query Answer → World Query → Type 0
 IsSound cube w = AreSound cube w.jobs w.queue w.past w.ready
 
 -- how many claims of an attempt may be without their end: one where the job had this attempt, else none

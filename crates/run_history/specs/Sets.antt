@@ -2,7 +2,7 @@
 use Rattle.std.specs.Prelude.{ℕ, Bool, ◌&&◌, ◌==◌, not, nat_lt, nat_le, List, ◌∷◌, ◌++◌, filter}
 use Rattle.std.specs.List.{flat_map}
 use Rattle.range_list.specs.Ranges.{Interval}
-use Rattle.run_history.specs.Cubes.{Cube, Rows, Snapshot}
+use Rattle.run_history.specs.Cubes.{CubeSemantics, Rows, Snapshot}
 
 -- a segment: its range, the job that made it, and the snapshots that its rows come from
 pub record Segment : Type 0 where
@@ -45,5 +45,5 @@ abbrev pub dropped : Interval → ReadySet → ReadySet
 dropped range set = filter (λ s. not (is_same_range range s.range)) set
 
 -- the joined rows of a set: those of each snapshot, end to end
-abbrev pub rows_of : {Query Answer : Type 0} → Cube Query Answer → ReadySet → Rows
+abbrev pub rows_of : {Query Answer : Type 0} → CubeSemantics Query Answer → ReadySet → Rows
 rows_of cube set = flat_map (λ s. flat_map cube.rows s.origin) set

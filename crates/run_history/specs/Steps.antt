@@ -8,7 +8,7 @@ use Rattle.range_list.specs.Ranges.{Interval}
 use Rattle.run_history.specs.Commands.{Command, Turn}
 use Rattle.run_history.specs.Commands.Command.{Load, Submit, Drop, Steer, Ask, Note}
 use Rattle.run_history.specs.Commands.Turn.{Takes, Claims, StepEnds, QueryTakes, QueryEnds}
-use Rattle.run_history.specs.Cubes.{Cube}
+use Rattle.run_history.specs.Cubes.{CubeSemantics}
 use Rattle.run_history.specs.Sets.{ReadySet, dropped, swapped}
 use Rattle.run_history.specs.Verdicts.{act_of, verdict}
 use Rattle.run_history.specs.World.{Asked, Submitted, Waiting, World, in_force, job_of, number, origin_of, start}
@@ -126,15 +126,15 @@ module _ {Query : Type 0} where
   by_verdict None steps w command = accepted steps w command
 
 -- how many steps a submitted job has; 0 at other commands
-abbrev pub steps_of : {Query Answer : Type 0} → Cube Query Answer → Command Query → ℕ
+abbrev pub steps_of : {Query Answer : Type 0} → CubeSemantics Query Answer → Command Query → ℕ
 steps_of cube (Submit kind range) = cube.steps kind
 steps_of cube _ = 0
 
-abbrev pub took : {Query Answer : Type 0} → Cube Query Answer → World Query → ℕ → Command Query → World Query
+abbrev pub took : {Query Answer : Type 0} → CubeSemantics Query Answer → World Query → ℕ → Command Query → World Query
 took cube w line command = by_verdict (verdict cube w command) (steps_of cube command) (record w { line = line }) command
 
 -- the world after a turn
-abbrev pub step : {Query Answer : Type 0} → Cube Query Answer → World Query → Turn Query → World Query
+abbrev pub step : {Query Answer : Type 0} → CubeSemantics Query Answer → World Query → Turn Query → World Query
 step cube w (Takes line command) = took cube w line command
 step cube w (Claims job attempt) = claimed w job attempt (job_of w job)
 step cube w (StepEnds job attempt outcome) =
@@ -143,5 +143,5 @@ step cube w (QueryTakes line) = query_taken w line (find (λ q. q.line == line) 
 step cube w (QueryEnds line out) = query_ended w line out (find (λ q. q.waiting.line == line) w.asked)
 
 -- the world after some turns
-abbrev pub world : {Query Answer : Type 0} → Cube Query Answer → ℕ → List (Turn Query) → World Query
+abbrev pub world : {Query Answer : Type 0} → CubeSemantics Query Answer → ℕ → List (Turn Query) → World Query
 world cube workers turns = fold (step cube) (start workers (length cube.tables)) turns

@@ -9,7 +9,7 @@ use Rattle.job_machine.specs.declared.state.JobState.TheVariants as state
 use Rattle.range_list.specs.Ranges.{Interval}
 use Rattle.run_history.specs.Commands.{Command}
 use Rattle.run_history.specs.Commands.Command.{Load, Submit, Drop, Steer, Ask, Note}
-use Rattle.run_history.specs.Cubes.{Cube, Rows}
+use Rattle.run_history.specs.Cubes.{CubeSemantics, Rows}
 use Rattle.run_history.specs.Sets.{ReadySet, inside, is_overlap, is_same_range}
 use Rattle.run_history.specs.World.{Submitted, World, is_live, job_of, live_builds}
 use Rattle.run_history.specs.declared.command.Control.{Control}
@@ -59,7 +59,7 @@ days_from day (suc count) = day ∷ days_from (day + 1) count
 abbrev pub first_free_day : Interval → ReadySet → Option ℕ
 first_free_day r set = find (λ day. not (is_held set day)) (days_from r.start (r.end - r.start))
 
-module _ {Query Answer : Type 0} (cube : Cube Query Answer) where
+module _ {Query Answer : Type 0} (cube : CubeSemantics Query Answer) where
   abbrev pub not_loaded : World Query → Option Refused
   not_loaded w = option_map NotLoaded (first_not_loaded cube.tables w.loaded)
 
@@ -117,7 +117,7 @@ await_refusal number None = Some (NoSuchJob number)
 await_refusal number (Some s) = None
 
 -- None where a command is accepted, else the first refusal that applies
-abbrev pub verdict : {Query Answer : Type 0} → Cube Query Answer → World Query → Command Query → Option Refused
+abbrev pub verdict : {Query Answer : Type 0} → CubeSemantics Query Answer → World Query → Command Query → Option Refused
 verdict cube w (Load table rows) = None
 verdict cube w (Submit kind r) = first_of (submit_refusals cube kind r w)
 verdict cube w (Drop r) = first_of (no_such_segment cube r w ∷ overlaps_job cube r w ∷ [])

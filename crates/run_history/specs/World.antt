@@ -7,7 +7,7 @@ use Rattle.job_machine.specs.declared.state.JobKind.TheVariants.{Build, Refresh,
 use Rattle.job_machine.specs.declared.state.JobState.{JobState}
 use Rattle.job_machine.specs.declared.state.JobState.TheVariants.{Pending, Running, Discarded, Finished}
 use Rattle.range_list.specs.Ranges.{Interval}
-use Rattle.run_history.specs.Cubes.{Cube, Rows, Snapshot}
+use Rattle.run_history.specs.Cubes.{CubeSemantics, Rows, Snapshot}
 use Rattle.run_history.specs.Sets.{ReadySet, inside}
 
 -- a job with its range, and the tables in force at its first claim
@@ -108,7 +108,7 @@ module _ {Query : Type 0} where
   origin_of w s = flat_map (λ part. part) (parts_of w s)
 
 -- the task of a job's next step
-abbrev pub next_task : {Query Answer : Type 0} → Cube Query Answer → World Query → Submitted → List ℕ
+abbrev pub next_task : {Query Answer : Type 0} → CubeSemantics Query Answer → World Query → Submitted → List ℕ
 next_task cube w s = cube.task s.job.kind (parts_of w s) s.job.done
 
 -- a job that is PENDING or RUNNING; a live one; and one that is FINISHED

@@ -8,7 +8,7 @@ ghost use Rattle.range_list.specs.Ranges.{Interval, IsApart};
 ghost use Rattle.run_history.specs.Commands.{Command, Turn};
 ghost use Rattle.run_history.specs.Commands.Command.{Ask, Load, Note, Steer, Submit};
 ghost use Rattle.run_history.specs.Commands.Turn.{Claims, QueryEnds, QueryTakes, StepEnds, Takes};
-ghost use Rattle.run_history.specs.Cubes.{Cube, Rows};
+ghost use Rattle.run_history.specs.Cubes.{CubeSemantics, Rows};
 ghost use Rattle.run_history.specs.Histories.{Along, Allowed, HasFreshAnswers, IsFresh, IsLawful, IsLegal};
 ghost use Rattle.run_history.specs.Invariants.{AreClaims, AreQueries, HasSteps, IsLeastOverlap, IsSound, ranges_of};
 ghost use Rattle.run_history.specs.Kept.{IsJobKept, IsKept, SameSets, ends_query};
@@ -25,38 +25,38 @@ ghost use Rattle.run_history.specs.Sets.{is_inside, is_overlap};
 
 /// The jobs, the queue and the ready sets keep their invariant over every legal history, and so do the claims without their end.
 pub fn sound_histories<Query, Answer>()
-    ensures claims { (cube : Cube Query Answer) → HasSteps cube → (workers : ℕ) (turns : List (Turn Query)) → IsLegal cube workers turns
+    ensures claims { (cube : CubeSemantics Query Answer) → HasSteps cube → (workers : ℕ) (turns : List (Turn Query)) → IsLegal cube workers turns
         → AreClaims (world cube workers turns).jobs (world cube workers turns).steps }
-    ensures sound { (cube : Cube Query Answer) → HasSteps cube → (workers : ℕ) (turns : List (Turn Query))
+    ensures sound { (cube : CubeSemantics Query Answer) → HasSteps cube → (workers : ℕ) (turns : List (Turn Query))
         → IsLegal cube workers turns → IsSound cube (world cube workers turns) }
 {}
 
 /// Every ready set of every legal history is apart.
 pub fn sets_apart<Query, Answer>()
-    ensures { (cube : Cube Query Answer) → HasSteps cube → (workers : ℕ) (turns : List (Turn Query)) → IsLegal cube workers turns
+    ensures { (cube : CubeSemantics Query Answer) → HasSteps cube → (workers : ℕ) (turns : List (Turn Query)) → IsLegal cube workers turns
         → (version : ℕ) → IsApart (ranges_of (set_at (world cube workers turns) version)) }
 {}
 
 /// The end of an attempt that isn't current, a command on a job, a claim, and every event of a job that is DISCARDED leave the
 /// ready sets as they were, in every world, and so do submissions, loads and queries.
 pub fn sets_stay<Query, Answer>()
-    ensures stale { (cube : Cube Query Answer) (w : World Query) (job attempt : ℕ) (outcome : Outcome) (s : Submitted) → job_of w job ≡ Some s
+    ensures stale { (cube : CubeSemantics Query Answer) (w : World Query) (job attempt : ℕ) (outcome : Outcome) (s : Submitted) → job_of w job ≡ Some s
         → is_current s.job attempt ≡ false → SameSets w (step cube w (StepEnds job attempt outcome)) }
-    ensures discarded { (cube : Cube Query Answer) (w : World Query) (job attempt : ℕ) (outcome : Outcome) (s : Submitted) → job_of w job ≡ Some s
+    ensures discarded { (cube : CubeSemantics Query Answer) (w : World Query) (job attempt : ℕ) (outcome : Outcome) (s : Submitted) → job_of w job ≡ Some s
         → s.job.state ≡ Discarded → SameSets w (step cube w (StepEnds job attempt outcome)) }
-    ensures steered { (cube : Cube Query Answer) (w : World Query) (line job : ℕ) (control : Control) → SameSets w (step cube w (Takes line (Steer control job))) }
-    ensures claimed { (cube : Cube Query Answer) (w : World Query) (job attempt : ℕ) → SameSets w (step cube w (Claims job attempt)) }
-    ensures submitted { (cube : Cube Query Answer) (w : World Query) (line : ℕ) (kind : JobKind) (range : Interval) → SameSets w (step cube w (Takes line (Submit kind range))) }
-    ensures loaded { (cube : Cube Query Answer) (w : World Query) (line table : ℕ) (rows : Rows) → SameSets w (step cube w (Takes line (Load table rows))) }
-    ensures asked { (cube : Cube Query Answer) (w : World Query) (line session : ℕ) (query : Query) → SameSets w (step cube w (Takes line (Ask session query))) }
-    ensures noted { (cube : Cube Query Answer) (w : World Query) (line : ℕ) (noted : Noted) → SameSets w (step cube w (Takes line (Note noted))) }
-    ensures taken { (cube : Cube Query Answer) (w : World Query) (line : ℕ) → SameSets w (step cube w (QueryTakes line)) }
-    ensures answered { (cube : Cube Query Answer) (w : World Query) (line : ℕ) (out : QueryOut) → SameSets w (step cube w (QueryEnds line out)) }
+    ensures steered { (cube : CubeSemantics Query Answer) (w : World Query) (line job : ℕ) (control : Control) → SameSets w (step cube w (Takes line (Steer control job))) }
+    ensures claimed { (cube : CubeSemantics Query Answer) (w : World Query) (job attempt : ℕ) → SameSets w (step cube w (Claims job attempt)) }
+    ensures submitted { (cube : CubeSemantics Query Answer) (w : World Query) (line : ℕ) (kind : JobKind) (range : Interval) → SameSets w (step cube w (Takes line (Submit kind range))) }
+    ensures loaded { (cube : CubeSemantics Query Answer) (w : World Query) (line table : ℕ) (rows : Rows) → SameSets w (step cube w (Takes line (Load table rows))) }
+    ensures asked { (cube : CubeSemantics Query Answer) (w : World Query) (line session : ℕ) (query : Query) → SameSets w (step cube w (Takes line (Ask session query))) }
+    ensures noted { (cube : CubeSemantics Query Answer) (w : World Query) (line : ℕ) (noted : Noted) → SameSets w (step cube w (Takes line (Note noted))) }
+    ensures taken { (cube : CubeSemantics Query Answer) (w : World Query) (line : ℕ) → SameSets w (step cube w (QueryTakes line)) }
+    ensures answered { (cube : CubeSemantics Query Answer) (w : World Query) (line : ℕ) (out : QueryOut) → SameSets w (step cube w (QueryEnds line out)) }
 {}
 
 /// A command that is refused changes nothing but the line of the last command, in every world.
 pub fn refused_changes_nothing<Query, Answer>()
-    ensures { (cube : Cube Query Answer) (w : World Query) (line : ℕ) (command : Command Query) (refused : Refused) → verdict cube w command ≡ Some refused
+    ensures { (cube : CubeSemantics Query Answer) (w : World Query) (line : ℕ) (command : Command Query) (refused : Refused) → verdict cube w command ≡ Some refused
         → step cube w (Takes line command) ≡ record w { line = line } }
 {}
 
@@ -64,20 +64,20 @@ pub fn refused_changes_nothing<Query, Answer>()
 /// task of its job's next step stays; a query in flight stays until its end; and where answers are fresh the versions of a session's
 /// last answers never fall.
 pub fn turns_keep<Query, Answer>()
-    ensures work { (cube : Cube Query Answer) → HasSteps cube → (w : World Query) → IsSound cube w → (turns : List (Turn Query))
+    ensures work { (cube : CubeSemantics Query Answer) → HasSteps cube → (w : World Query) → IsSound cube w → (turns : List (Turn Query))
         → Along cube Allowed w turns → IsKept w (fold (step cube) w turns) }
-    ensures task { (cube : Cube Query Answer) (old new : World Query) (s t : Submitted) (attempt : ℕ) → IsJobKept old new s t → attempt ≤ s.job.attempt
+    ensures task { (cube : CubeSemantics Query Answer) (old new : World Query) (s t : Submitted) (attempt : ℕ) → IsJobKept old new s t → attempt ≤ s.job.attempt
         → is_current t.job attempt ≡ true → next_task cube new t ≡ next_task cube old s }
-    ensures query { (cube : Cube Query Answer) (w : World Query) (turn : Turn Query) (line : ℕ) (q : Asked Query) → ends_query line turn ≡ false
+    ensures query { (cube : CubeSemantics Query Answer) (w : World Query) (turn : Turn Query) (line : ℕ) (q : Asked Query) → ends_query line turn ≡ false
         → find (λ other. other.waiting.line == line) w.asked ≡ Some q → find (λ other. other.waiting.line == line) (step cube w turn).asked ≡ Some q }
-    ensures answers { (cube : Cube Query Answer) (w : World Query) (turn : Turn Query) → IsFresh w turn → (session : ℕ)
+    ensures answers { (cube : CubeSemantics Query Answer) (w : World Query) (turn : Turn Query) → IsFresh w turn → (session : ℕ)
         → w.answered session ≤ (step cube w turn).answered session }
 {}
 
 /// Over every legal and fresh history no version is beyond the last one, and the version at which a query in flight was taken is lawful
 /// at its end.
 pub fn versions_are_lawful<Query, Answer>()
-    ensures queries { (cube : Cube Query Answer) (workers : ℕ) (turns : List (Turn Query)) → IsLegal cube workers turns
+    ensures queries { (cube : CubeSemantics Query Answer) (workers : ℕ) (turns : List (Turn Query)) → IsLegal cube workers turns
         → HasFreshAnswers cube workers turns → AreQueries (world cube workers turns) }
     ensures at_take { (w : World Query) → AreQueries w → (line : ℕ) (q : Asked Query) → find (λ other. other.waiting.line == line) w.asked ≡ Some q
         → IsLawful w (Some q) q.at_take }
@@ -87,10 +87,10 @@ pub fn versions_are_lawful<Query, Answer>()
 /// as there may be, OverlapsJob carries the least number of a live job that overlaps, and what a live job's swap replaces lies inside its
 /// range.
 pub fn refusals_are_exact<Query, Answer>()
-    ensures full { (cube : Cube Query Answer) (w : World Query) → IsSound cube w
+    ensures full { (cube : CubeSemantics Query Answer) (w : World Query) → IsSound cube w
         → (too_many_segments cube w ≡ Some TooManySegments) ↔ (length w.ready + live_builds w.jobs ≡ most_segments) }
-    ensures least { (cube : Cube Query Answer) (w : World Query) → IsSound cube w → (range : Interval) (job : ℕ)
+    ensures least { (cube : CubeSemantics Query Answer) (w : World Query) → IsSound cube w → (range : Interval) (job : ℕ)
         → overlaps_job cube range w ≡ Some (OverlapsJob job) → IsLeastOverlap w range job }
-    ensures swap { (cube : Cube Query Answer) (w : World Query) → IsSound cube w → (job : ℕ) (s : Submitted) → job_of w job ≡ Some s
+    ensures swap { (cube : CubeSemantics Query Answer) (w : World Query) → IsSound cube w → (job : ℕ) (s : Submitted) → job_of w job ≡ Some s
         → is_live s.job.state ≡ true → All (λ other. is_overlap other.range s.range ≡ true → is_inside s.range other.range ≡ true) w.ready }
 {}

@@ -1,6 +1,6 @@
 //! The definitions of a run: events, the world that a history of them gives, verdicts on commands, and which histories are legal and
 //! fresh. It stands below the job board, which holds the world of its history, and above the job table, the ranges of days and the
-//! values of tables. What a cube is (its steps, tasks, products, rows and answers) is a parameter of the definitions, one record `Cube`.
+//! values of tables. What a cube is (its steps, tasks, products, rows and answers) is a parameter of the definitions, one record `CubeSemantics`.
 //!
 //! Over every legal history the invariant `IsSound` holds of jobs, queue and ready sets (`sound_histories`); the laws of one turn and of
 //! histories are functions with empty bodies, in `histories`, and lemmas in `proofs/Laws.antt`, `proofs/Sound.antt` and `proofs/Kept.antt`.

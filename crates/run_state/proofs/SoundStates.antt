@@ -7,7 +7,7 @@ use Rattle.job_list.specs.JobList.{has}
 use Rattle.job_machine.specs.Job.{is_running}
 use Rattle.job_machine.specs.declared.state.JobKind.{JobKind}
 use Rattle.range_list.specs.Ranges.{Interval, IsFree, Overlaps}
-use Rattle.run_history.specs.Cubes.{Cube, Rows}
+use Rattle.run_history.specs.Cubes.{CubeSemantics, Rows}
 use Rattle.run_history.specs.Invariants.{IsInPlace, IsSound, places_of, ranges_of}
 use Rattle.run_history.specs.Sets.{ReadySet, Segment, is_overlap}
 use Rattle.run_history.specs.World.{Submitted, World, job_at}
@@ -32,7 +32,7 @@ counted n (item ∷ queue) b h = by_test (item == n) b (counted n queue b) (sym 
     by_test true false rest h = absurd (omega arith)
     by_test false c rest h = rest (omega arith)
 
-module _ {T P S Q Answer : Type 0} (cube : Cube Q Answer) (rows : T → Rows) (w : World Q) (s : RunState T P S Q) (sound : IsSound cube w) (i : IsStateOf rows w s) where
+module _ {T P S Q Answer : Type 0} (cube : CubeSemantics Q Answer) (rows : T → Rows) (w : World Q) (s : RunState T P S Q) (sound : IsSound cube w) (i : IsStateOf rows w s) where
   told : (n : ℕ) → job_at w.jobs n ≡ option_map (submitted_of rows) (entry_at s.jobs.items n)
   told n = ap (λ (jobs : List Submitted). job_at jobs n) i.jobs ∙ job_by_entry rows s.jobs.items n
 

@@ -4,7 +4,7 @@ use Rattle.job_machine.specs.Job.{JobRecord, attempt_in_flight, state_after}
 use Rattle.job_machine.specs.declared.state.JobState.{JobState}
 use Rattle.job_machine.specs.declared.state.JobRefusal.{JobRefusal}
 use Rattle.job_machine.specs.declared.state.JobRefusal.TheVariants as job
-use Rattle.run_history.specs.Cubes.{Cube}
+use Rattle.run_history.specs.Cubes.{CubeSemantics}
 use Rattle.run_history.specs.Verdicts.{act_of, state_refusal}
 use Rattle.run_history.specs.World.{Submitted}
 use Rattle.run_history.specs.declared.command.Control.{Control}
@@ -59,7 +59,7 @@ is_failure Done = false
 is_failure _ = true
 
 -- a cube of which nothing but the names of its tables is known
-abbrev pub named : {Q : Type 0} → List (List ℕ) → Cube Q ⊤
+abbrev pub named : {Q : Type 0} → List (List ℕ) → CubeSemantics Q ⊤
 named names = record {
   tables = names;
   steps = λ kind. 0;

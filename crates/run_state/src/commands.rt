@@ -211,7 +211,7 @@ fn requeue(queue: &mut JobList, control: Control, job: u32)
 }
 
 /// Pauses, resumes or discards a job, or refuses to. It takes no memory.
-pub fn steer<T: TableHandle, P: Drop, S: Drop, Q: Drop>(
+pub fn control_job<T: TableHandle, P: Drop, S: Drop, Q: Drop>(
     state: &mut RunState<T, P, S, Q>,
     line: u32,
     control: Control,

@@ -1,7 +1,7 @@
 // What legal histories give the calls on states.
 
 ghost use Rattle.std.specs.Prelude.{◌≡◌, ℕ, true, List};
-ghost use Rattle.run_history.specs.Cubes.{Cube, Rows};
+ghost use Rattle.run_history.specs.Cubes.{CubeSemantics, Rows};
 ghost use Rattle.run_history.specs.Invariants.{IsSound};
 ghost use Rattle.run_history.specs.World.{World};
 ghost use Rattle.run_state.specs.Orders.{IsBuildAt, IsFreeFor, IsOrderly, IsQueued, is_current_at};
@@ -11,7 +11,7 @@ ghost use Rattle.run_state.specs.declared.parts.RunState.{RunState};
 /// A state of a sound world, as every legal history leaves it, has in its queue exactly the jobs that wait for a claim; and no ready
 /// segment overlaps the range of a BUILD job whose attempt counts.
 pub fn sound_states<T, P, S, Query, Answer>()
-    ensures queued { (cube : Cube Query Answer) (rows : T → Rows) (w : World Query) (s : RunState T P S Query) → IsSound cube w → IsStateOf rows w s → IsQueued s }
-    ensures free { (cube : Cube Query Answer) (rows : T → Rows) (w : World Query) (s : RunState T P S Query) → IsSound cube w → IsStateOf rows w s → IsOrderly s
+    ensures queued { (cube : CubeSemantics Query Answer) (rows : T → Rows) (w : World Query) (s : RunState T P S Query) → IsSound cube w → IsStateOf rows w s → IsQueued s }
+    ensures free { (cube : CubeSemantics Query Answer) (rows : T → Rows) (w : World Query) (s : RunState T P S Query) → IsSound cube w → IsStateOf rows w s → IsOrderly s
         → (job attempt : ℕ) → is_current_at (entry_at s.jobs.items job) attempt ≡ true → IsBuildAt (entry_at s.jobs.items job) → IsFreeFor s (entry_at s.jobs.items job) }
 {}

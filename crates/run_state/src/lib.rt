@@ -25,7 +25,7 @@ mod steps;
 mod table;
 mod verdicts;
 
-pub use commands::{load, new_state, set_line, steer, submit};
+pub use commands::{control_job, load, new_state, set_line, submit};
 pub use examples::worked_examples;
 pub use laws::sound_states;
 pub use parts::{

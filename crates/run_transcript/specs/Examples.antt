@@ -16,7 +16,7 @@ use Rattle.plain_answer.specs.declared.ask.Ask.{Ask}
 use Rattle.plain_answer.specs.declared.cond.Cond.TheVariants as cond
 use Rattle.plain_answer.specs.declared.cond.Term.TheVariants.{Col, Agg as Agg'}
 use Rattle.range_list.specs.Ranges.{Interval}
-use Rattle.run_history.specs.Cubes.{Cube, Rows}
+use Rattle.run_history.specs.Cubes.{CubeSemantics, Rows}
 use Rattle.run_history.specs.declared.event.Event.{Event}
 use Rattle.run_history.specs.declared.event.Event.TheVariants.{Command, Claim, StepEnd, QueryTake, QueryEnd}
 use Rattle.run_history.specs.declared.event.Outcome.TheVariants.{Done, Killed}
@@ -40,7 +40,7 @@ rows_in range [] = []
 rows_in range (facts ∷ lookups) = map (λ row. drop 1 row) (filter (is_in range) facts)
 
 -- one table, three steps a job, and the meaning of queries over the rows of a range, without their days
-abbrev pub small : Cube Ask AnswerTable
+abbrev pub small : CubeSemantics Ask AnswerTable
 small = record {
   tables = codes "F" ∷ [];
   steps = λ kind. 3;

@@ -5,7 +5,7 @@ use Rattle.std.specs.Str.{bytes_eq}
 use Rattle.job_machine.specs.declared.state.JobKind.TheVariants.{Build, Refresh, Merge}
 use Rattle.plain_answer.specs.declared.answer.AnswerTable.{AnswerTable}
 use Rattle.run_history.specs.Commands.{Command, Command as command}
-use Rattle.run_history.specs.Cubes.{Cube, Rows}
+use Rattle.run_history.specs.Cubes.{CubeSemantics, Rows}
 use Rattle.run_history.specs.declared.command.Control.TheVariants.{Pause, Resume, Discard}
 use Rattle.run_history.specs.declared.command.Noted.TheVariants.{AwaitJob, AwaitJobs, AwaitQueries, Other}
 use Rattle.run_history.specs.declared.refused.Refused.{Refused}
@@ -17,7 +17,7 @@ use Rattle.script_text.specs.declared.verb.Verb.TheVariants as verb
 -- the cube; what is written of it for its descriptor; how many cuboids each of its segments has; the query that a text is, or why it is
 -- refused; and why the load of a table that the cube hasn't is refused
 pub record Served (Query : Type 0) : Type 0 where
-  pub cube : Cube Query AnswerTable
+  pub cube : CubeSemantics Query AnswerTable
   pub shown : Block
   pub cuboids : ℕ
   pub query_of : List ℕ → Result Query Refused

@@ -15,8 +15,8 @@
 mod running;
 
 ghost use Rattle.std.specs.Prelude.{◌<◌, IfOk};
-ghost use Rattle.step_form.specs.Products.{FitsProduct};
-ghost use Rattle.step_form.specs.Tasks.{FitsTask};
+ghost use Rattle.step_files.specs.Products.{FitsProduct};
+ghost use Rattle.step_files.specs.Tasks.{FitsTask};
 
 use crate::running::answer_run;
 use sha2::{Digest, Sha256};
@@ -24,7 +24,7 @@ use std::alloc::Global;
 use std::io;
 use std::io::{BufRead, BufReader, BufWriter, Write};
 use std::thread::Threads;
-use step_form::{
+use step_files::{
     Product, ProductRefusal, Task, TaskRefusal, product_file, read_product, read_task, task_text,
 };
 

@@ -16,7 +16,7 @@ use Rattle.cube_desc.specs.Sound.{IsSound}
 use Rattle.cube_desc.specs.declared.desc.MeasureDesc.{MeasureDesc}
 use Rattle.cube_fields.specs.Cells.{FitsCells, FitsId, FitsTable, are_ordered, count_in, measure_of, measures_of, sizes_in}
 use Rattle.cube_fields.specs.declared.forms.Extremes.{Extremes}
-use Rattle.cube_fields.specs.declared.forms.TableForm.{TableForm}
+use Rattle.cube_fields.specs.declared.forms.CellTableForm.{CellTableForm}
 use Rattle.cube_val.specs.declared.val.Val.{Val}
 use Rattle.layer_builder.specs.Base.{base_mask, base_rows, dict_at, form_of_kind, key_in, key_width, measures_from}
 use Rattle.layer_builder.proofs.BaseFacts.{forms_from as measured_forms}
@@ -24,18 +24,18 @@ use Rattle.measure_laws.specs.declared.measure.MeasureForm.{MeasureForm}
 use Rattle.measure_laws.specs.declared.measure.MeasureForm.TheVariants as measure
 use Rattle.plain_answer.specs.Aggregates.{cell}
 use Rattle.plain_answer.specs.declared.ask.Agg.{Agg}
-use Rattle.step_bodies.specs.Bodies.{FitsHolding, holds, is_in}
-use Rattle.step_bodies.specs.Layouts.{base_mask as last_mask, cell_form, size_limit, table_form}
-use Rattle.step_bodies.specs.declared.layout.DictColumn.{DictColumn}
+use Rattle.step_codec.specs.Bodies.{FitsHolding, holds, is_in}
+use Rattle.step_codec.specs.Layouts.{base_mask as last_mask, cell_form, size_limit, table_form}
+use Rattle.step_codec.specs.declared.layout.DictColumn.{DictColumn}
 use Rattle.step_fields.specs.Fits.{FitsRow}
-use Rattle.step_form.specs.Cubes.{dict_column, dict_places as form_places, distinct_places as form_distinct, extremes_of, flat_of as flat_columns, forms_from, is_count, kept_measures, kept_of, layout_of}
-use Rattle.step_form.specs.Tasks.{FitsFlat}
-use Rattle.step_form.proofs.ShortFacts.{each_length}
+use Rattle.step_files.specs.Cubes.{dict_column, dict_places as form_places, distinct_places as form_distinct, extremes_of, flat_of as flat_columns, forms_from, is_count, kept_measures, kept_of, layout_of}
+use Rattle.step_files.specs.Tasks.{FitsFlat}
+use Rattle.step_files.proofs.ShortFacts.{each_length}
 use Rattle.cube_fields.specs.Dicts.{FitsDict}
-use Rattle.step_bodies.specs.Layouts.{dict_form}
-use Rattle.step_value.specs.Columns.{agg_of, dict_places, distinct_place, kept_aggs}
-use Rattle.step_value.specs.Values.{base_value}
-use Rattle.step_value.proofs.ColumnFacts.{places_counted}
+use Rattle.step_codec.specs.Layouts.{dict_form}
+use Rattle.step_compute.specs.Columns.{agg_of, dict_places, distinct_place, kept_aggs}
+use Rattle.step_compute.specs.Values.{base_value}
+use Rattle.step_compute.proofs.ColumnFacts.{places_counted}
 use Rattle.step_task.proofs.BaseMask.{last_is_base, sizes_in_base}
 use Rattle.step_task.proofs.DictFits.{places_are}
 use Rattle.step_task.proofs.ExtremeFacts.{all_pairs, are_extremes_at, mapped_at, no_count, others}
@@ -73,7 +73,7 @@ module _ (c : Cube) (dicts : List (List Val)) (small : (i : ℕ) → length (dic
   abbrev kept : List MeasureDesc
   kept = others c.measures
 
-  abbrev form : TableForm
+  abbrev form : CellTableForm
   form = record { sizes = take width sizes; cells = map (cell_form sizes) (forms_from width (map kept_of kept)); extremes = extremes_of (map kept_of kept); most = 200_000 }
 
   abbrev one : List Val → Row

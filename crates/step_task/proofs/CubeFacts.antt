@@ -14,11 +14,11 @@ use Rattle.cube_val.specs.declared.form.TableForm.{TableForm}
 use Rattle.cube_val.specs.declared.val.Val.{Val}
 use Rattle.flat_join.specs.Flat.{AreTablesOf}
 use Rattle.joined_rows.specs.Fits.{FitsColumn as JoinsColumn, FitsRow as JoinsRow, IsTable}
-use Rattle.step_bodies.specs.Bodies.{FitsAllLoaded, FitsLoaded}
+use Rattle.step_codec.specs.Bodies.{FitsAllLoaded, FitsLoaded}
 use Rattle.step_fields.specs.Fits.{FitsRow}
-use Rattle.step_form.specs.Cubes.{columns_in, layout_in, layout_of, table_of, tables_of}
-use Rattle.step_form.proofs.LayoutFacts.{layout_is}
-use Rattle.step_form.proofs.ShortFacts.{each_length}
+use Rattle.step_files.specs.Cubes.{columns_in, layout_in, layout_of, table_of, tables_of}
+use Rattle.step_files.proofs.LayoutFacts.{layout_is}
+use Rattle.step_files.proofs.ShortFacts.{each_length}
 use Rattle.step_task.specs.Steps.{cube_in, no_cube}
 
 -- ---- the cube

@@ -14,14 +14,14 @@ use Rattle.cube_val.specs.OrderLaws.{val_cmp_total}
 use Rattle.cube_val.proofs.OrderFacts.{val_cmp_exact}
 use Rattle.dim_dictionary.specs.Dictionaries.{dictionary_of}
 use Rattle.plain_answer.specs.Aggregates.{cell}
-use Rattle.step_bodies.specs.Bodies.{FitsHolding, holds, is_in}
-use Rattle.step_bodies.specs.Layouts.{dict_form, row_limit}
+use Rattle.step_codec.specs.Bodies.{FitsHolding, holds, is_in}
+use Rattle.step_codec.specs.Layouts.{dict_form, row_limit}
 use Rattle.step_fields.specs.Fits.{FitsColumn, FitsRow}
 use Rattle.step_fields.specs.declared.column.Column.{Column}
-use Rattle.step_form.specs.Cubes.{dict_column, dict_places as form_places, distinct_places as form_distinct, flat_of as flat_columns, layout_of, no_column}
-use Rattle.step_form.specs.Tasks.{FitsFlat}
-use Rattle.step_value.specs.Columns.{dict_places, distinct_places as own_distinct}
-use Rattle.step_value.specs.Values.{dict_value, values_in}
+use Rattle.step_files.specs.Cubes.{dict_column, dict_places as form_places, distinct_places as form_distinct, flat_of as flat_columns, layout_of, no_column}
+use Rattle.step_files.specs.Tasks.{FitsFlat}
+use Rattle.step_compute.specs.Columns.{dict_places, distinct_places as own_distinct}
+use Rattle.step_compute.specs.Values.{dict_value, values_in}
 use Rattle.table_reader.specs.Keys.{val_at}
 use Rattle.step_task.proofs.CellFits.{put}
 use Rattle.step_task.proofs.FlatFits.{value_fits}

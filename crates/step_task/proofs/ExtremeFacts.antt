@@ -8,10 +8,10 @@ use Rattle.cube_fields.specs.declared.forms.CellForm.TheVariants as form
 use Rattle.cube_fields.specs.declared.forms.Extremes.{Extremes}
 use Rattle.measure_laws.specs.declared.measure.MeasureForm.{MeasureForm}
 use Rattle.measure_laws.specs.declared.measure.MeasureForm.TheVariants as measure
-use Rattle.step_bodies.specs.Layouts.{cell_form}
-use Rattle.step_bodies.specs.declared.layout.KeptForm.{KeptForm}
-use Rattle.step_bodies.specs.declared.layout.KeptForm.TheVariants as forms
-use Rattle.step_form.specs.Cubes.{are_extremes, are_forms, dict_after, extremes_at, extremes_of, extremes_with, forms_from, is_count, is_same, kept_by, kept_of}
+use Rattle.step_codec.specs.Layouts.{cell_form}
+use Rattle.step_codec.specs.declared.layout.KeptForm.{KeptForm}
+use Rattle.step_codec.specs.declared.layout.KeptForm.TheVariants as forms
+use Rattle.step_files.specs.Cubes.{are_extremes, are_forms, dict_after, extremes_at, extremes_of, extremes_with, forms_from, is_count, is_same, kept_by, kept_of}
 use Rattle.step_task.proofs.GroupFits.{AreExtremes, both_parts}
 
 -- ---- measures that are kept

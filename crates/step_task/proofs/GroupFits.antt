@@ -25,7 +25,7 @@ use Rattle.cube_fields.specs.Cells.{FitsCell, FitsCells, FitsId, FitsRow, FitsTa
 use Rattle.cube_fields.specs.declared.forms.CellForm.{CellForm}
 use Rattle.cube_fields.specs.declared.forms.CellForm.TheVariants as form
 use Rattle.cube_fields.specs.declared.forms.Extremes.{Extremes}
-use Rattle.cube_fields.specs.declared.forms.TableForm.{TableForm}
+use Rattle.cube_fields.specs.declared.forms.CellTableForm.{CellTableForm}
 use Rattle.measure_laws.specs.Extremes.{Extreme, greatest_of, least_of, picked}
 use Rattle.measure_laws.specs.Measures.{MeasureLaws}
 use Rattle.step_task.proofs.CellFits.{HasCell, cells_have, cells_merge, none_have}
@@ -438,16 +438,16 @@ module _ (key : Row → List ℕ) where
 
 -- ---- tables
 
-row_cells : (sizes : List ℕ) (f : TableForm) (rows : List Row) → AllByRecursion (FitsRow sizes f) rows → AllByRecursion (λ (row : Row). FitsCells f.most f.cells row.1) rows
+row_cells : (sizes : List ℕ) (f : CellTableForm) (rows : List Row) → AllByRecursion (FitsRow sizes f) rows → AllByRecursion (λ (row : Row). FitsCells f.most f.cells row.1) rows
 row_cells sizes f [] all = tt
 row_cells sizes f (row ∷ rows) all = (all.0.cells, row_cells sizes f rows all.1)
 
-row_order : (sizes : List ℕ) (f : TableForm) (rows : List Row) → AllByRecursion (FitsRow sizes f) rows → AllByRecursion (λ (row : Row). Ordered f.extremes row.1) rows
+row_order : (sizes : List ℕ) (f : CellTableForm) (rows : List Row) → AllByRecursion (FitsRow sizes f) rows → AllByRecursion (λ (row : Row). Ordered f.extremes row.1) rows
 row_order sizes f [] all = tt
 row_order sizes f (row ∷ rows) all = (all.0.ordered, row_order sizes f rows all.1)
 
 -- rows that fit but for their keys, in groups by any key that fits, are a valid table
-pub grouped_fits : (f : TableForm) (part : Mask) (key : Row → List ℕ) (rows : List Row) → AllByRecursion (λ (row : Row). EachFits FitsId (sizes_in f.sizes part) (key row)) rows
+pub grouped_fits : (f : CellTableForm) (part : Mask) (key : Row → List ℕ) (rows : List Row) → AllByRecursion (λ (row : Row). EachFits FitsId (sizes_in f.sizes part) (key row)) rows
     → AllByRecursion (λ (row : Row). FitsCells f.most f.cells row.1) rows → AllByRecursion (λ (row : Row). Ordered f.extremes row.1) rows
     → sum_by (λ (row : Row). count_in row.1) rows ≤ f.most → AllByRecursion (AreExtremes f.cells) f.extremes
     → FitsTable f part (record { mask = part; forms = measures_of f; rows = grouped key_cmp key (λ (row : Row). row.1) (merged f.cells) rows })
@@ -463,13 +463,13 @@ grouped_fits f part key rows keys cells order few extremes = record {
   few = omega (arith, all_counted key f.most f.cells rows cells, few);
 }
 
-row_keys : (f : TableForm) (whole part : Mask) (rows : List Row) → IsWithin part whole → AllByRecursion (FitsRow (sizes_in f.sizes whole) f) rows
+row_keys : (f : CellTableForm) (whole part : Mask) (rows : List Row) → IsWithin part whole → AllByRecursion (FitsRow (sizes_in f.sizes whole) f) rows
     → AllByRecursion (λ (row : Row). EachFits FitsId (sizes_in f.sizes part) (part_of whole part row.0)) rows
 row_keys f whole part [] within all = tt
 row_keys f whole part (row ∷ rows) within all = (key_fits whole part f.sizes row.0 within all.0.key, row_keys f whole part rows within all.1)
 
 -- the rows of a valid table, gathered by some of its dimensions, are a valid table
-pub gathered_fits : (f : TableForm) (whole part : Mask) (rows : List Row) → IsWithin part whole → AllByRecursion (FitsRow (sizes_in f.sizes whole) f) rows
+pub gathered_fits : (f : CellTableForm) (whole part : Mask) (rows : List Row) → IsWithin part whole → AllByRecursion (FitsRow (sizes_in f.sizes whole) f) rows
     → sum_by (λ (row : Row). count_in row.1) rows ≤ f.most → AllByRecursion (AreExtremes f.cells) f.extremes
     → FitsTable f part (record { mask = part; forms = measures_of f; rows = gathered (measures_of f) (part_of whole part) rows })
 gathered_fits f whole part rows within all few extremes =

@@ -6,16 +6,16 @@ use Rattle.agg_group.specs.Mask.{IsRising, IsWithin, mask_at}
 use Rattle.byte_frame.specs.Spelling.{EachFits}
 use Rattle.cell_store.specs.Cells.{CellRows}
 use Rattle.cube_fields.specs.Cells.{FitsRow, FitsTable, FitsTables, sizes_in}
-use Rattle.cube_fields.specs.declared.forms.TableForm.{TableForm}
+use Rattle.cube_fields.specs.declared.forms.CellTableForm.{CellTableForm}
 use Rattle.layer_builder.specs.Layers.{HasParent}
-use Rattle.step_bodies.specs.Layouts.{layer_masks}
-use Rattle.step_value.specs.Values.{HasParents, has_mask, is_in_layer, layer_places, layer_value, no_table, parent_mask, regrouped, table_with}
-use Rattle.step_value.specs.Wants.{want_of}
-use Rattle.step_value.proofs.LayerFacts.{all_pass, wants_have}
+use Rattle.step_codec.specs.Layouts.{layer_masks}
+use Rattle.step_compute.specs.Values.{HasParents, has_mask, is_in_layer, layer_places, layer_value, no_table, parent_mask, regrouped, table_with}
+use Rattle.step_compute.specs.Wants.{want_of}
+use Rattle.step_compute.proofs.LayerFacts.{all_pass, wants_have}
 use Rattle.step_task.proofs.GroupFits.{AreExtremes, gathered_fits}
 
 -- a table that fits a mask fits its own
-fits_own : (f : TableForm) (m : Mask) (t : CellRows) → FitsTable f m t → FitsTable f t.mask t
+fits_own : (f : CellTableForm) (m : Mask) (t : CellRows) → FitsTable f m t → FitsTable f t.mask t
 fits_own f m t h = record {
   mask = refl;
   measures = h.measures;
@@ -24,7 +24,7 @@ fits_own f m t h = record {
   few = h.few;
 }
 
-all_own : (f : TableForm) (ms : List Mask) (tables : List CellRows) → EachFits (FitsTable f) ms tables → AllByRecursion (λ (t : CellRows). FitsTable f t.mask t) tables
+all_own : (f : CellTableForm) (ms : List Mask) (tables : List CellRows) → EachFits (FitsTable f) ms tables → AllByRecursion (λ (t : CellRows). FitsTable f t.mask t) tables
 all_own f [] [] h = tt
 all_own f [] (t ∷ tables) h = absurd h
 all_own f (m ∷ ms) [] h = absurd h
@@ -36,7 +36,7 @@ at_place P (x ∷ xs) zero d all lt = all.0
 at_place P (x ∷ xs) (suc i) d all lt = at_place P xs i d all.1 (omega arith)
 
 -- a valid table, gathered by some of its dimensions
-regrouped_fits : (f : TableForm) (t : CellRows) (m : Mask) → FitsTable f t.mask t → IsWithin m t.mask → AllByRecursion (AreExtremes f.cells) f.extremes → FitsTable f m (regrouped t m)
+regrouped_fits : (f : CellTableForm) (t : CellRows) (m : Mask) → FitsTable f t.mask t → IsWithin m t.mask → AllByRecursion (AreExtremes f.cells) f.extremes → FitsTable f m (regrouped t m)
 regrouped_fits f t m h within extremes =
     let own = gathered_fits f t.mask m t.rows within h.rows h.few extremes in
     subst (λ forms. FitsTable f m (regrouped (record t { forms = forms }) m)) (sym h.measures) own
@@ -50,7 +50,7 @@ all_wanted P Q f [] each all = tt
 all_wanted P Q f (k ∷ ks) each all = (each k all.0, all_wanted P Q f ks each all.1)
 
 -- the cuboids of a layer, made from valid tables of their parents
-pub layer_fits : (f : TableForm) (masks : List Mask) (dims : ℕ) (ms : List Mask) (parents : List CellRows) → IsRising masks → ((i : ℕ) → (mask_at masks i).0 < 2 ^ 64)
+pub layer_fits : (f : CellTableForm) (masks : List Mask) (dims : ℕ) (ms : List Mask) (parents : List CellRows) → IsRising masks → ((i : ℕ) → (mask_at masks i).0 < 2 ^ 64)
     → FitsTables f ms parents → HasParents masks dims parents → AllByRecursion (AreExtremes f.cells) f.extremes → FitsTables f (layer_masks masks dims) (layer_value masks dims parents)
 layer_fits f masks dims ms parents rising small h there extremes =
     let ks = layer_places masks dims in

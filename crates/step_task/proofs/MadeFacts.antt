@@ -11,20 +11,20 @@ use Rattle.cube_val.specs.declared.val.Val.{Val}
 use Rattle.flat_join.specs.Flat.{AreTablesOf, flat_of}
 use Rattle.measure_laws.specs.Measures.{most_items}
 use Rattle.range_list.specs.Ranges.{Interval}
-use Rattle.step_bodies.specs.Bodies.{FitsAllLoaded, FitsHolding, FitsLayer}
-use Rattle.step_bodies.specs.Layouts.{size_limit, table_form}
-use Rattle.step_bodies.specs.declared.layout.Layout.{Layout}
-use Rattle.step_bodies.specs.declared.seal.SealBody.{SealBody}
-use Rattle.step_form.specs.Cubes.{layout_of}
-use Rattle.step_form.specs.Tasks.{FitsTask, is_descriptor}
-use Rattle.step_form.specs.declared.product.Product.TheVariants as product
-use Rattle.step_form.specs.declared.task.Task.{Task}
-use Rattle.step_form.specs.declared.task.Task.TheVariants as task
-use Rattle.step_task.specs.Steps.{cube_in, step_value}
+use Rattle.step_codec.specs.Bodies.{FitsAllLoaded, FitsHolding, FitsLayer}
+use Rattle.step_codec.specs.Layouts.{size_limit, table_form}
+use Rattle.step_codec.specs.declared.layout.Layout.{Layout}
+use Rattle.step_codec.specs.declared.seal.SealBody.{SealBody}
+use Rattle.step_files.specs.Cubes.{layout_of}
+use Rattle.step_files.specs.Tasks.{FitsTask, is_descriptor}
+use Rattle.step_files.specs.declared.product.Product.TheVariants as product
+use Rattle.step_files.specs.declared.task.Task.{Task}
+use Rattle.step_files.specs.declared.task.Task.TheVariants as task
+use Rattle.step_task.specs.Steps.{cube_in, step_compute}
 use Rattle.step_task.proofs.CubeFacts.{are_tables, described, layout_is_of}
 use Rattle.step_task.proofs.TaskFacts.{dicts_counted, parents_are}
-use Rattle.step_value.specs.Columns.{dict_places}
-use Rattle.step_value.specs.Values.{HasParents, base_value, dict_value, layer_value}
+use Rattle.step_compute.specs.Columns.{dict_places}
+use Rattle.step_compute.specs.Values.{HasParents, base_value, dict_value, layer_value}
 
 -- ---- results
 
@@ -55,8 +55,8 @@ module _ (t : Task) (h : FitsTask t) (desc d : List ℕ) (same : d ≡ desc) whe
         let g = flat_fits in
         subst (λ (x : List ℕ). AreTablesOf (cube_in x) tables) (sym same) (are_tables (cube_in desc) tables (subst (λ (l : Layout). FitsAllLoaded l tables) (layout_is_of desc g.0.1) g.1.1))
 
-    pub flat_made : (flat : List (List Val)) → flat ≡ flat_of (cube_in d) tables range → product.Flat flat ≡ step_value t
-    flat_made flat is = ap product.Flat (is ∙ ap (λ (x : List ℕ). flat_of (cube_in x) tables range) same) ∙ sym (ap step_value e)
+    pub flat_made : (flat : List (List Val)) → flat ≡ flat_of (cube_in d) tables range → product.Flat flat ≡ step_compute t
+    flat_made flat is = ap product.Flat (is ∙ ap (λ (x : List ℕ). flat_of (cube_in x) tables range) same) ∙ sym (ap step_compute e)
 
   module _ (flat : List (List Val)) (e : t ≡ task.Dict desc flat) where
     dict_fits : FitsTask (task.Dict desc flat)
@@ -68,8 +68,8 @@ module _ (t : Task) (h : FitsTask t) (desc d : List ℕ) (same : d ≡ desc) whe
     pub dict_few : length flat < 2 ^ 32
     dict_few = let g = dict_fits in omega (arith, g.1.0)
 
-    pub dict_made : (dicts : List (List Val)) → dicts ≡ dict_value (cube_in d) flat → product.Dicts dicts ≡ step_value t
-    dict_made dicts is = ap product.Dicts (is ∙ ap (λ (x : List ℕ). dict_value (cube_in x) flat) same) ∙ sym (ap step_value e)
+    pub dict_made : (dicts : List (List Val)) → dicts ≡ dict_value (cube_in d) flat → product.Dicts dicts ≡ step_compute t
+    dict_made dicts is = ap product.Dicts (is ∙ ap (λ (x : List ℕ). dict_value (cube_in x) flat) same) ∙ sym (ap step_compute e)
 
   module _ (flat dicts : List (List Val)) (e : t ≡ task.Base desc flat dicts) where
     base_fits : FitsTask (task.Base desc flat dicts)
@@ -86,8 +86,8 @@ module _ (t : Task) (h : FitsTask t) (desc d : List ℕ) (same : d ≡ desc) whe
     pub base_few : length flat ≤ most_items
     base_few = let g = base_fits in omega (arith, g.1.0.0)
 
-    pub base_made : (table : CellRows) → table ≡ base_value (cube_in d) flat dicts → product.Base table ≡ step_value t
-    base_made table is = ap product.Base (is ∙ ap (λ (x : List ℕ). base_value (cube_in x) flat dicts) same) ∙ sym (ap step_value e)
+    pub base_made : (table : CellRows) → table ≡ base_value (cube_in d) flat dicts → product.Base table ≡ step_compute t
+    base_made table is = ap product.Base (is ∙ ap (λ (x : List ℕ). base_value (cube_in x) flat dicts) same) ∙ sym (ap step_compute e)
 
   module _ (dims : ℕ) (sizes : List ℕ) (parents given : List CellRows) (are : given ≡ parents) (e : t ≡ task.Layer desc dims sizes parents) where
     layer_fits : FitsTask (task.Layer desc dims sizes parents)
@@ -103,9 +103,9 @@ module _ (t : Task) (h : FitsTask t) (desc d : List ℕ) (same : d ≡ desc) whe
         let own = parents_there (cube_in desc) s dims sizes parents (subst (λ (l : Layout). FitsLayer l (dims, (sizes, parents))) (layout_is_of desc g.0.1) g.1) in
         subst (λ (x : List ℕ). HasParents (cube_in x).masks dims given) (sym same) (subst (λ (ts : List CellRows). HasParents (cube_in desc).masks dims ts) (sym are) own)
 
-    pub layer_made : (tables : List CellRows) → tables ≡ layer_value (cube_in d).masks dims given → product.Cells tables ≡ step_value t
+    pub layer_made : (tables : List CellRows) → tables ≡ layer_value (cube_in d).masks dims given → product.Cells tables ≡ step_compute t
     layer_made tables is =
-        ap product.Cells (is ∙ ap (λ (x : List ℕ). layer_value (cube_in x).masks dims given) same ∙ ap (layer_value (cube_in desc).masks dims) are) ∙ sym (ap step_value e)
+        ap product.Cells (is ∙ ap (λ (x : List ℕ). layer_value (cube_in x).masks dims given) same ∙ ap (layer_value (cube_in desc).masks dims) are) ∙ sym (ap step_compute e)
 
-pub seal_made : (t : Task) (s : SealBody) → t ≡ task.Seal s → product.Seal s ≡ step_value t
-seal_made t s e = sym (ap step_value e)
+pub seal_made : (t : Task) (s : SealBody) → t ≡ task.Seal s → product.Seal s ≡ step_compute t
+seal_made t s e = sym (ap step_compute e)

@@ -9,17 +9,17 @@ use Rattle.cube_desc.specs.Sound.{IsSound}
 use Rattle.cube_desc.proofs.SoundFacts.{sound}
 use Rattle.cube_fields.specs.Cells.{FitsTable, FitsTables}
 use Rattle.flat_join.specs.Flat.{flat_of}
-use Rattle.step_bodies.specs.Bodies.{FitsAllLoaded, FitsHolding, FitsLayer}
-use Rattle.step_bodies.specs.Layouts.{base_mask, layer_masks, parent_masks, row_limit, size_limit, table_form}
-use Rattle.step_bodies.specs.declared.layout.Layout.{Layout}
-use Rattle.step_bodies.proofs.LayerFacts.{small_at}
-use Rattle.step_form.specs.Cubes.{kept_measures, layout_of}
-use Rattle.step_form.specs.Products.{FitsProduct}
-use Rattle.step_form.specs.Tasks.{FitsFlat, FitsTask}
-use Rattle.step_form.specs.declared.task.Task.{Task}
-use Rattle.step_form.specs.declared.task.Task.TheVariants as task
-use Rattle.step_form.proofs.LayoutFacts.{layout_holds}
-use Rattle.step_task.specs.Steps.{cube_in, step_value}
+use Rattle.step_codec.specs.Bodies.{FitsAllLoaded, FitsHolding, FitsLayer}
+use Rattle.step_codec.specs.Layouts.{base_mask, layer_masks, parent_masks, row_limit, size_limit, table_form}
+use Rattle.step_codec.specs.declared.layout.Layout.{Layout}
+use Rattle.step_codec.proofs.LayerFacts.{small_at}
+use Rattle.step_files.specs.Cubes.{kept_measures, layout_of}
+use Rattle.step_files.specs.Products.{FitsProduct}
+use Rattle.step_files.specs.Tasks.{FitsFlat, FitsTask}
+use Rattle.step_files.specs.declared.task.Task.{Task}
+use Rattle.step_files.specs.declared.task.Task.TheVariants as task
+use Rattle.step_files.proofs.LayoutFacts.{layout_holds}
+use Rattle.step_task.specs.Steps.{cube_in, step_compute}
 use Rattle.step_task.proofs.BaseFits.{base_fits}
 use Rattle.step_task.proofs.CubeFacts.{described, layout_is_of}
 use Rattle.step_task.proofs.DictFits.{dicts_hold}
@@ -27,7 +27,7 @@ use Rattle.step_task.proofs.ExtremeFacts.{are_extremes_at, no_count, others}
 use Rattle.step_task.proofs.FlatFits.{flat_fits}
 use Rattle.step_task.proofs.LayerFits.{layer_fits}
 use Rattle.step_task.proofs.TaskFacts.{parents_are}
-use Rattle.step_value.specs.Values.{base_value, dict_value, layer_value}
+use Rattle.step_compute.specs.Values.{base_value, dict_value, layer_value}
 
 -- the cuboids of a layer of a cube
 layer_of_cube : (c : Cube) → IsSound c → (dims : ℕ) (sizes : List ℕ) (parents : List CellRows) → FitsLayer (layout_of c) (dims, (sizes, parents))
@@ -39,7 +39,7 @@ layer_of_cube c s dims sizes parents h =
     layer_fits f c.masks dims (parent_masks c.masks dims) parents rising (λ i. small_at c.masks i (layout_holds c s).masks) h.1.1
     (parents_are c.masks dims f parents rising h.1.1) (are_extremes_at sizes (length c.rowkey) (others c.measures) (no_count c.measures))
 
-pub made_products : (t : Task) → FitsTask t → FitsProduct t (step_value t)
+pub made_products : (t : Task) → FitsTask t → FitsProduct t (step_compute t)
 made_products (task.Flat desc range tables) h =
     let s = sound desc (cube_in desc) (described desc h.0.1) in
     let lay = layout_is_of desc h.0.1 in

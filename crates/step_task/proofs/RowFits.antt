@@ -31,14 +31,14 @@ use Rattle.measure_laws.specs.Measures.{most_of_item}
 use Rattle.measure_laws.specs.declared.measure.MeasureForm.{MeasureForm}
 use Rattle.measure_laws.specs.declared.measure.MeasureForm.TheVariants as measure
 use Rattle.plain_answer.specs.Aggregates.{cell}
-use Rattle.step_bodies.specs.Bodies.{holds, is_in}
-use Rattle.step_bodies.specs.Layouts.{cell_form, dict_form}
-use Rattle.step_bodies.specs.declared.layout.DictColumn.{DictColumn}
-use Rattle.step_bodies.specs.declared.layout.KeptForm.TheVariants as forms
+use Rattle.step_codec.specs.Bodies.{holds, is_in}
+use Rattle.step_codec.specs.Layouts.{cell_form, dict_form}
+use Rattle.step_codec.specs.declared.layout.DictColumn.{DictColumn}
+use Rattle.step_codec.specs.declared.layout.KeptForm.TheVariants as forms
 use Rattle.step_fields.specs.Fits.{FitsRow}
 use Rattle.step_fields.specs.declared.column.Column.{Column}
-use Rattle.step_form.specs.Cubes.{forms_from, is_count, is_same, kept_of}
-use Rattle.step_value.specs.Columns.{agg_of, distinct_place, kind_of, place_of}
+use Rattle.step_files.specs.Cubes.{forms_from, is_count, is_same, kept_of}
+use Rattle.step_compute.specs.Columns.{agg_of, distinct_place, kind_of, place_of}
 use Rattle.table_reader.specs.Keys.{val_at}
 use Rattle.step_task.proofs.DictFits.{cell_is}
 use Rattle.step_task.proofs.ExtremeFacts.{ArePair, others}

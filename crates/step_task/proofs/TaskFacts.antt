@@ -11,17 +11,17 @@ use Rattle.cell_store.specs.Cells.{CellRows}
 use Rattle.cube_desc.specs.Cube.{Cube}
 use Rattle.cube_fields.specs.Cells.{FitsTable, FitsTables}
 use Rattle.cube_fields.specs.Dicts.{FitsDict}
-use Rattle.cube_fields.specs.declared.forms.TableForm.{TableForm}
+use Rattle.cube_fields.specs.declared.forms.CellTableForm.{CellTableForm}
 use Rattle.cube_val.specs.declared.val.Val.{Val}
 use Rattle.cuboid_tree.specs.Tree.{is_child, is_of_layer, is_place, parent_of, places}
 use Rattle.cuboid_tree.proofs.Parents.{parent_is}
-use Rattle.step_bodies.specs.Bodies.{FitsHolding}
-use Rattle.step_bodies.specs.Layouts.{dict_forms, is_above_layer, parent_masks}
-use Rattle.step_form.specs.Cubes.{dict_column, flat_of, dict_places as form_places, layout_of}
-use Rattle.step_form.proofs.ShortFacts.{each_length}
-use Rattle.step_value.specs.Columns.{dict_places}
-use Rattle.step_value.specs.Values.{HasParents, has_mask, is_in_layer, parent_mask}
-use Rattle.step_value.proofs.LayerFacts.{both_true}
+use Rattle.step_codec.specs.Bodies.{FitsHolding}
+use Rattle.step_codec.specs.Layouts.{dict_forms, is_above_layer, parent_masks}
+use Rattle.step_files.specs.Cubes.{dict_column, flat_of, dict_places as form_places, layout_of}
+use Rattle.step_files.proofs.ShortFacts.{each_length}
+use Rattle.step_compute.specs.Columns.{dict_places}
+use Rattle.step_compute.specs.Values.{HasParents, has_mask, is_in_layer, parent_mask}
+use Rattle.step_compute.proofs.LayerFacts.{both_true}
 use Rattle.step_task.proofs.DictFits.{places_are}
 
 -- ---- dictionaries
@@ -35,7 +35,7 @@ dicts_counted c limit flat dicts h =
 
 -- ---- parents
 
-among_tables : (f : TableForm) (ms : List Mask) (tables : List CellRows) (m : Mask) → EachFits (FitsTable f) ms tables → list_any (λ k. eqb k.0 m.0) ms ≡ true → list_any (has_mask m) tables ≡ true
+among_tables : (f : CellTableForm) (ms : List Mask) (tables : List CellRows) (m : Mask) → EachFits (FitsTable f) ms tables → list_any (λ k. eqb k.0 m.0) ms ≡ true → list_any (has_mask m) tables ≡ true
 among_tables f [] [] m h e = absurd cc
 among_tables f [] (t ∷ tables) m h e = absurd h
 among_tables f (k ∷ ms) [] m h e = absurd h
@@ -82,7 +82,7 @@ all_in_range q t a (suc n) each = by (q a) refl (all_in_range q t (a + 1) n (λ 
   by false is rest = rest
 
 -- the table of the parent of each cuboid of a layer is there
-pub parents_are : (masks : List Mask) (dims : ℕ) (f : TableForm) (parents : List CellRows) → IsRising masks → FitsTables f (parent_masks masks dims) parents → HasParents masks dims parents
+pub parents_are : (masks : List Mask) (dims : ℕ) (f : CellTableForm) (parents : List CellRows) → IsRising masks → FitsTables f (parent_masks masks dims) parents → HasParents masks dims parents
 parents_are masks dims f parents rising h = all_in_range (is_in_layer masks dims) (λ i. list_any (has_mask (parent_mask masks i)) parents) 0 (length masks) each where
   each : (i : ℕ) → 0 ≤ i → i < 0 + length masks → is_in_layer masks dims i ≡ true → list_any (has_mask (parent_mask masks i)) parents ≡ true
   each i low high e = by (parent_of masks i) refl (both_true (is_of_layer masks dims i) (is_some (parent_of masks i)) e) where

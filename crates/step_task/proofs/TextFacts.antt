@@ -1,8 +1,8 @@
 -- Bytes are one task at most.
 use Rattle.std.proofs.Common.{◌≡◌, ◌<◌, ◌^◌, ◌∙◌, ℕ, List, Some, length, sym, ap}
-use Rattle.step_form.specs.Files.{IsTaskFile}
-use Rattle.step_form.specs.declared.task.Task.{Task}
-use Rattle.step_form.proofs.ExactFiles.{task_again}
+use Rattle.step_files.specs.Files.{IsTaskFile}
+use Rattle.step_files.specs.declared.task.Task.{Task}
+use Rattle.step_files.proofs.ExactFiles.{task_again}
 use Rattle.step_task.specs.Laws.{TextsAreOfTasks}
 use Rattle.step_task.specs.Steps.{made_of, step_text, text_of}
 

@@ -3,12 +3,12 @@ use Rattle.std.specs.Prelude.{ℕ, List, [], Option, Some, None, unwrap_or}
 use Rattle.cube_desc.specs.Cube.{Cube}
 use Rattle.cube_desc.specs.Meaning.{desc_of}
 use Rattle.flat_join.specs.Flat.{flat_of}
-use Rattle.step_form.specs.Files.{IsTaskFile, product_file, task_at}
-use Rattle.step_form.specs.declared.product.Product.{Product}
-use Rattle.step_form.specs.declared.product.Product.TheVariants as product
-use Rattle.step_form.specs.declared.task.Task.{Task}
-use Rattle.step_form.specs.declared.task.Task.TheVariants as task
-use Rattle.step_value.specs.Values.{base_value, dict_value, layer_value}
+use Rattle.step_files.specs.Files.{IsTaskFile, product_file, task_at}
+use Rattle.step_files.specs.declared.product.Product.{Product}
+use Rattle.step_files.specs.declared.product.Product.TheVariants as product
+use Rattle.step_files.specs.declared.task.Task.{Task}
+use Rattle.step_files.specs.declared.task.Task.TheVariants as task
+use Rattle.step_compute.specs.Values.{base_value, dict_value, layer_value}
 
 -- stands for the cube of bytes that are no descriptor; no task has such
 abbrev pub no_cube : Cube
@@ -19,16 +19,16 @@ unfoldable pub cube_in : List ℕ → Cube
 cube_in desc = unwrap_or (desc_of desc) no_cube
 
 -- what the step of a task makes
-abbrev pub step_value : Task → Product
-step_value (task.Flat desc range tables) = product.Flat (flat_of (cube_in desc) tables range)
-step_value (task.Dict desc flat) = product.Dicts (dict_value (cube_in desc) flat)
-step_value (task.Base desc flat dicts) = product.Base (base_value (cube_in desc) flat dicts)
-step_value (task.Layer desc dims sizes parents) = product.Cells (layer_value (cube_in desc).masks dims parents)
-step_value (task.Seal s) = product.Seal s
+abbrev pub step_compute : Task → Product
+step_compute (task.Flat desc range tables) = product.Flat (flat_of (cube_in desc) tables range)
+step_compute (task.Dict desc flat) = product.Dicts (dict_value (cube_in desc) flat)
+step_compute (task.Base desc flat dicts) = product.Base (base_value (cube_in desc) flat dicts)
+step_compute (task.Layer desc dims sizes parents) = product.Cells (layer_value (cube_in desc).masks dims parents)
+step_compute (task.Seal s) = product.Seal s
 
 -- the file of that, which names the task
 abbrev pub step_text : Task → List ℕ
-step_text t = product_file t (step_value t)
+step_text t = product_file t (step_compute t)
 
 -- bytes that are a task
 abbrev pub IsTask : List ℕ → Type 0

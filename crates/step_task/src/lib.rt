@@ -1,6 +1,6 @@
 //! The work of a child: the task in a file becomes the product in another.
 //!
-//! The crate puts the grammars of step files (`step_form`) and what each step makes (`step_value`) together, and gives on the
+//! The crate puts the grammars of step files (`step_files`) and what each step makes (`step_compute`) together, and gives on the
 //! names of the first, so that who needs tasks and products names this crate alone.
 //!
 //! At its boundary: the bytes that [`run_step`] gives are the file of what the definitions make of the task
@@ -15,7 +15,7 @@ mod making;
 mod work;
 
 pub use laws::{steps_make_products, texts_are_of_tasks};
-pub use step_form::{
+pub use step_files::{
     CuboidRows, DictColumn, DoneStep, KeptForm, Layout, Product, ProductRefusal, SealBody,
     TableColumns, Task, TaskRefusal, layout, product_file, read_product, read_product_with,
     read_task, task_text,

@@ -5,11 +5,11 @@ ghost use Rattle.cell_store.specs.Cells.{CellRows};
 ghost use Rattle.cube_val.specs.declared.val.Val.{Val};
 ghost use Rattle.flat_join.specs.Flat.{AreTablesOf, flat_of};
 ghost use Rattle.measure_laws.specs.Measures.{most_items};
-ghost use Rattle.step_form.specs.Tasks.{FitsTask, is_descriptor};
-ghost use Rattle.step_task.specs.Steps.{cube_in, step_value};
-ghost use Rattle.step_value.specs.Columns.{dict_places};
-ghost use Rattle.step_value.specs.Values.{HasParents, base_value, dict_value, layer_value};
-ghost use Rattle.step_value.specs.Watched.{Looked, SawStop};
+ghost use Rattle.step_files.specs.Tasks.{FitsTask, is_descriptor};
+ghost use Rattle.step_task.specs.Steps.{cube_in, step_compute};
+ghost use Rattle.step_compute.specs.Columns.{dict_places};
+ghost use Rattle.step_compute.specs.Values.{HasParents, base_value, dict_value, layer_value};
+ghost use Rattle.step_compute.specs.Watched.{Looked, SawStop};
 
 use cell_store::CellTable;
 use cube_desc::{CubeDesc, DescRefusal, read_desc};
@@ -20,8 +20,8 @@ use plain_answer::FlatRows;
 use range_list::Range;
 use std::alloc::{AllocError, Global};
 use std::thread::Threads;
-use step_form::{Product, Task};
-use step_value::{StepFault, base_value, dict_value, flat_value, layer_value, look};
+use step_compute::{StepFault, base_value, dict_value, flat_value, layer_value, look};
+use step_files::{Product, Task};
 
 // The descriptor of a valid task.
 fn descriptor(alloc: Global, bytes: &[u8]) -> Result<CubeDesc, AllocError>
@@ -121,7 +121,7 @@ fn made<R: Threads + Sync, W: Watch>(
     watch: &mut W,
 ) -> Result<Product, StepFault>
     requires { FitsTask task }
-    ensures product { IfOk result (λ p. p ≡ step_value task) }
+    ensures product { IfOk result (λ p. p ≡ step_compute task) }
     ensures looked { Looked W.seen W.there W.held W.place watch.old watch.new }
     ensures stopped { IsErrOf result StepFault.Stopped → SawStop W.seen W.there watch.old watch.new }
 {
@@ -165,7 +165,7 @@ pub(crate) fn product_of<R: Threads + Sync, W: Watch>(
     watch: &mut W,
 ) -> Result<Product, StepFault>
     requires { FitsTask task }
-    ensures product { IfOk result (λ p. p ≡ step_value task) }
+    ensures product { IfOk result (λ p. p ≡ step_compute task) }
     ensures looked { Looked W.seen W.there W.held W.place watch.old watch.new }
     ensures stopped { IsErrOf result StepFault.Stopped → SawStop W.seen W.there watch.old watch.new }
 {

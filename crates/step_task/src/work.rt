@@ -10,8 +10,8 @@ use outside::{StepWork, Watch, WorkFault};
 use sha2::{Digest, Sha256};
 use std::alloc::Global;
 use std::thread::Threads;
-use step_form::{TaskRefusal, product_file, read_task};
-use step_value::StepFault;
+use step_compute::StepFault;
+use step_files::{TaskRefusal, product_file, read_task};
 
 // No slice is longer.
 fn short(bytes: &[u8]) -> usize

@@ -101,7 +101,7 @@ fn submit(rt: &impl Abort, beside: &mut Beside) -> Result<(), Fail> {
     Ok(())
 }
 
-fn steer(rt: &impl Abort, beside: &mut Beside, control: Control, job: u32) {
+fn control_job(rt: &impl Abort, beside: &mut Beside, control: Control, job: u32) {
     let line = next_line(rt, &beside.board);
     let answer = beside.board.control(line, control, job);
     assert!(rt; answer.is_ok_and(|controlled| controlled.stop.is_none()));
@@ -164,24 +164,24 @@ fn turn<R: Abort + Threads + Sync>(
         0..=5 => submit(rt, beside)?,
         6 | 7 => {
             if let Some(job) = take_one(&mut beside.queue, seed) {
-                steer(rt, beside, Control::Pause, job);
+                control_job(rt, beside, Control::Pause, job);
                 beside.resting.push(job)?;
             }
         }
         8..=10 => {
             if let Some(job) = take_one(&mut beside.resting, seed) {
-                steer(rt, beside, Control::Resume, job);
+                control_job(rt, beside, Control::Resume, job);
                 beside.queue.push(job)?;
             }
         }
         11 | 12 => {
             if let Some(job) = take_one(&mut beside.queue, seed) {
-                steer(rt, beside, Control::Discard, job);
+                control_job(rt, beside, Control::Discard, job);
             }
         }
         13 => {
             if let Some(job) = take_one(&mut beside.resting, seed) {
-                steer(rt, beside, Control::Discard, job);
+                control_job(rt, beside, Control::Discard, job);
             }
         }
         number => run_step(rt, alloc, beside, number == 14)?,

@@ -1,4 +1,4 @@
-use Rattle.step_form.proofs.ShortFacts.{product_short}
+use Rattle.step_files.proofs.ShortFacts.{product_short}
 use Rattle.step_check.proofs.answer_product.Goals as goal
 
 pub product_file-requires : goal.product_file-requires

@@ -1,5 +1,5 @@
 use Rattle.std.proofs.Common.{Some}
-use Rattle.job_board.specs.Ledger.{now}
+use Rattle.job_board.specs.BoardModel.{now}
 use Rattle.coordinator.proofs.Blocks.{built_entry}
 use Rattle.coordinator.proofs.commands.build.Goals as goal
 

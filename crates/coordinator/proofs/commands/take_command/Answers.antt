@@ -1,5 +1,5 @@
 use Rattle.std.proofs.Common.{Some, map, sym, ap, ◌∙◌, subst}
-use Rattle.job_board.specs.Ledger.{IsAdded, now}
+use Rattle.job_board.specs.BoardModel.{IsAdded, now}
 use Rattle.plain_answer.specs.declared.ask.Ask.{Ask as Query}
 use Rattle.run_history.specs.Commands.{Command}
 use Rattle.run_history.specs.Commands.Turn.{Takes}

@@ -1,6 +1,6 @@
 use Rattle.std.proofs.Common.{◌≡◌, List, Vec, true, map, ap, ◌∙◌, subst, arith}
 use Rattle.std.specs.declared.alloc.Global.{Global}
-use Rattle.job_board.specs.Ledger.{now}
+use Rattle.job_board.specs.BoardModel.{now}
 use Rattle.script_text.specs.declared.verb.Line.{Line}
 use Rattle.coordinator.specs.Coordinator.{inputs_in, is_done, load_of}
 use Rattle.coordinator.specs.declared.loads.SharedLoad.{SharedLoad}

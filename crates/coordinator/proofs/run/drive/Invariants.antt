@@ -1,6 +1,6 @@
 use Rattle.std.proofs.Common.{◌≡◌, ◌≤◌, ℕ, List, [], ◌∷◌, Option, map}
 use Rattle.coordinator.specs.Coordinator.{AreGiven, HasWritten, IsCounted, IsSound, inputs_in, load_of}
-use Rattle.job_board.specs.Ledger.{turns}
+use Rattle.job_board.specs.BoardModel.{turns}
 use Rattle.coordinator.specs.Tied.{IsTied}
 use Rattle.coordinator.proofs.run.drive.Given as goal
 

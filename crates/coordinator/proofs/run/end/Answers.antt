@@ -1,7 +1,7 @@
 use Rattle.std.proofs.Common.{length, map, sym, ap, ◌∙◌, subst}
 use Rattle.std.specs.Io.KnownBytes.{append_known}
 use Rattle.std.proofs.lemmas.List.{length-map}
-use Rattle.job_board.specs.Ledger.{now}
+use Rattle.job_board.specs.BoardModel.{now}
 use Rattle.outside.specs.Written.{AppendsPart}
 use Rattle.run_state.specs.States.{place_kept, place_of}
 use Rattle.run_transcript.specs.Entries.{tally_of}

@@ -6,7 +6,7 @@ use Rattle.coordinator.specs.Served.{inputs_of}
 use Rattle.coordinator.proofs.Endings.{err_status, inputs-are, no-run, ok_status, start-counted, start-sound, start-written}
 use Rattle.coordinator.proofs.Whole.{run-over}
 use Rattle.std.proofs.Common.{All, refl, ap, ◌∙◌}
-use Rattle.job_board.specs.Ledger.{turns}
+use Rattle.job_board.specs.BoardModel.{turns}
 use Rattle.coordinator.specs.Served.{served}
 use Rattle.coordinator.specs.Stops.{stops_of}
 use Rattle.coordinator.specs.Ties.{IsEndBy, IsUndamaged, StandsAmong}

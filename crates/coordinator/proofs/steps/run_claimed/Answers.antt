@@ -1,6 +1,6 @@
 use Rattle.std.proofs.Common.{[], ◌∷◌, arith}
 use Rattle.fixed_state.specs.Ends.{kept_of}
-use Rattle.job_board.specs.Ledger.{now}
+use Rattle.job_board.specs.BoardModel.{now}
 use Rattle.run_history.specs.Commands.Turn.{StepEnds}
 use Rattle.run_history.specs.World.{job_of}
 use Rattle.coordinator.proofs.Boards.{added-same, grown-added}

@@ -1,6 +1,6 @@
 use Rattle.std.proofs.Common.{Err, ap}
 use Rattle.step_task.proofs.MadeFacts.{base_desc, base_dicts, base_few, base_made, dict_desc, dict_few, dict_made, flat_desc, flat_made, flat_tables, layer_desc, layer_made, layer_parents, not_err, same_err, seal_made}
-use Rattle.step_value.proofs.WatchFacts.{looked_none}
+use Rattle.step_compute.proofs.WatchFacts.{looked_none}
 use Rattle.step_task.proofs.making.made.Goals as goal
 
 pub flat_rows-requires-clause-desc : goal.flat_rows-requires-clause-desc

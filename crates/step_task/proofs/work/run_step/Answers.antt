@@ -1,9 +1,9 @@
 use Rattle.std.proofs.Common.{◌≡◌, ◌∙◌, ap, subst, sym}
 use Rattle.sha2.specs.Sha256.{sha256}
-use Rattle.step_form.specs.Files.{digest_of, file_of}
-use Rattle.step_form.specs.Products.{IsShortProduct}
-use Rattle.step_form.proofs.ShortFacts.{product_short}
-use Rattle.step_task.specs.Steps.{step_value}
+use Rattle.step_files.specs.Files.{digest_of, file_of}
+use Rattle.step_files.specs.Products.{IsShortProduct}
+use Rattle.step_files.proofs.ShortFacts.{product_short}
+use Rattle.step_task.specs.Steps.{step_compute}
 use Rattle.step_task.proofs.ProductFacts.{made_products}
 use Rattle.step_task.proofs.TextFacts.{made_text}
 use Rattle.step_task.proofs.work.run_step.Goals as goal
@@ -11,7 +11,7 @@ use Rattle.step_task.proofs.work.run_step.Goals as goal
 pub product_file-requires : goal.product_file-requires
 product_file-requires g c =
     let fits = c.in-Ok.ensures.found.0 in
-    subst IsShortProduct (sym c.in-Ok-product_of.ensures.product) (product_short c.in-Ok.found (step_value c.in-Ok.found) fits (made_products c.in-Ok.found fits))
+    subst IsShortProduct (sym c.in-Ok-product_of.ensures.product) (product_short c.in-Ok.found (step_compute c.in-Ok.found) fits (made_products c.in-Ok.found fits))
 
 pub returns-in-Ok-product_file-clause-product : goal.returns-in-Ok-product_file-clause-product
 returns-in-Ok-product_file-clause-product g c =

@@ -5,7 +5,7 @@ use Rattle.fixed_cube.specs.Answers.{by_first}
 use Rattle.fixed_cube.specs.Cells.{Cell}
 use Rattle.fixed_state.specs.Kept.{IsReadyKept}
 use Rattle.fixed_state.specs.Ready.{AreCellsOf}
-use Rattle.job_board.specs.Ledger.{next_query}
+use Rattle.job_board.specs.BoardModel.{next_query}
 use Rattle.plain_answer.specs.declared.ask.Ask.{Ask as Query}
 use Rattle.run_history.specs.Verdicts.{most_segments}
 use Rattle.run_history.specs.World.{Waiting, World}

@@ -1,6 +1,0 @@
-use Rattle.std.proofs.Common.{◌≡◌, drop}
-use Rattle.step_bodies.specs.Bodies.{holds}
-use Rattle.step_bodies.proofs.dicts.holds.Given as goal
-
-abbrev pub invariant-loop-i : goal.invariant-loop-i
-invariant-loop-i l = holds (drop l.i l.columns) (drop l.i l.dicts) l.row ≡ holds l.columns l.dicts l.row

@@ -1,0 +1,105 @@
+-- The layout of a cube that bytes describe.
+use Rattle.std.proofs.Common.{◌≡◌, ◌≤◌, ◌<◌, ◌^◌, ◌++◌, ℕ, zero, suc, Bool, true, false, cond, List, [], ◌∷◌, length, Option, Some, None, refl, sym, ap, subst, arith, length-append}
+use Rattle.std.specs.Prelude.{filter, is_some, map}
+use Rattle.std.specs.List.{AllByRecursion, cons_option, filter_map, range_with_len}
+use Rattle.std.proofs.Math.Nat.{pow-le-pow_right}
+use Rattle.std.proofs.lemmas.List.{length-map}
+use Rattle.std.proofs.lemmas.List.FromFn.{length-range_with_len}
+use Rattle.agg_group.specs.declared.mask.Mask.{Mask}
+use Rattle.agg_group.specs.Built.{built_masks, is_built, masks_below}
+use Rattle.agg_group.specs.Mask.{has}
+use Rattle.agg_group.specs.Rules.{Rules}
+use Rattle.agg_group.proofs.BuiltLemmas.{built_has_base, built_rises}
+use Rattle.cuboid_tree.specs.Tree.{SpansTree}
+use Rattle.cube_desc.specs.Cube.{Cube}
+use Rattle.cube_desc.specs.Meaning.{desc_of}
+use Rattle.cube_desc.specs.Sound.{IsSound}
+use Rattle.cube_desc.specs.declared.desc.MeasureDesc.{MeasureDesc}
+use Rattle.cube_desc.proofs.SoundFacts.{sound}
+use Rattle.step_codec.specs.Layouts.{IsLayout}
+use Rattle.step_codec.specs.declared.layout.Layout.{Layout}
+use Rattle.step_files.specs.Cubes.{dict_column, dict_places, distinct_place, distinct_places, flat_of, layout_in, layout_of, layout_or}
+
+-- ---- masks
+
+abbrev AreBelow : ℕ → List Mask → Type 0
+AreBelow n masks = AllByRecursion (λ (m : Mask). m.0 < n) masks
+
+below_more : (n : ℕ) (masks : List Mask) → AreBelow n masks → AreBelow (suc n) masks
+below_more n [] h = tt
+below_more n (m ∷ masks) h = (omega (arith, h.0), below_more n masks h.1)
+
+below_end : (n : ℕ) (masks : List Mask) (m : Mask) → AreBelow n masks → m.0 < n → AreBelow n (masks ++ m ∷ [])
+below_end n [] m h lt = (lt, tt)
+below_end n (k ∷ masks) m h lt = (h.0, below_end n masks m h.1 lt)
+
+all_below : (n : ℕ) → AreBelow n (masks_below n)
+all_below zero = tt
+all_below (suc n) = below_end (suc n) (masks_below n) (record { 0 = n }) (below_more n (masks_below n) (all_below n)) (omega arith)
+
+kept_below : (q : Mask → Bool) (n : ℕ) (masks : List Mask) → AreBelow n masks → AreBelow n (filter q masks)
+kept_below q n [] h = tt
+kept_below q n (m ∷ masks) h = by (q m) (kept_below q n masks h.1) where
+  by : (b : Bool) → AreBelow n (filter q masks) → AreBelow n (cond b (m ∷ filter q masks) (filter q masks))
+  by true rest = (h.0, rest)
+  by false rest = rest
+
+wider : (n m : ℕ) (masks : List Mask) → n ≤ m → AreBelow n masks → AreBelow m masks
+wider n m [] le h = tt
+wider n m (k ∷ masks) le h = (omega (arith, le, h.0), wider n m masks le h.1)
+
+built_below : (n : ℕ) (groups : List Rules) → AreBelow (2 ^ n) (built_masks n groups)
+unfolding built_masks
+built_below n groups = kept_below (λ m. is_built n groups (has m)) (2 ^ n) (masks_below (2 ^ n)) (all_below (2 ^ n))
+
+-- 2 to the power of at most 20
+small_power : (n : ℕ) → n ≤ 20 → 2 ^ n ≤ 2 ^ 64
+small_power n le = pow-le-pow_right {n = 2} (omega arith) {i = n} {j = 64} (omega (arith, le))
+
+built_spans : (n : ℕ) (groups : List Rules) → SpansTree (built_masks n groups)
+built_spans n groups = let base = built_has_base n groups in record { some = base.0; rising = built_rises n groups; base = base.1 }
+
+-- ---- dictionaries
+
+few_places : (c : Cube) (ms : List MeasureDesc) → length (filter_map (distinct_place c) ms) ≤ length ms
+few_places c [] = omega arith
+few_places c (m ∷ ms) = by (distinct_place c m) (few_places c ms) where
+  by : (o : Option ℕ) → length (filter_map (distinct_place c) ms) ≤ length ms → length (cons_option o (filter_map (distinct_place c) ms)) ≤ length (m ∷ ms)
+  by (Some p) h = omega (arith, h)
+  by None h = omega (arith, h)
+
+few_dicts : (c : Cube) → IsSound c → length (map (dict_column (flat_of c)) (dict_places c)) < 2 ^ 32
+unfolding distinct_places
+few_dicts c s =
+    omega (
+      arith,
+      length-map (dict_places c) (dict_column (flat_of c)),
+      length-append (range_with_len 0 (length c.rowkey)) (filter_map (distinct_place c) c.measures),
+      length-range_with_len 0 (length c.rowkey),
+      few_places c c.measures,
+      s.few_dimensions,
+      s.few_measures,
+    )
+
+pub layout_holds : (c : Cube) → IsSound c → IsLayout (layout_of c)
+unfolding layout_of
+layout_holds c s = record {
+  spans = subst (λ (ms : List Mask). SpansTree ms) (sym s.masks) (built_spans (length c.rowkey) c.groups);
+  few_masks = omega (arith, s.few_masks);
+  masks = subst (λ (ms : List Mask). AreBelow (2 ^ 64) ms) (sym s.masks) (wider (2 ^ length c.rowkey) (2 ^ 64) (built_masks (length c.rowkey) c.groups) (small_power (length c.rowkey) s.few_dimensions) (built_below (length c.rowkey) c.groups));
+  few_dicts = few_dicts c s;
+}
+
+pub layouts_hold : (bytes : List ℕ) (c : Cube) → desc_of bytes ≡ Some c → IsLayout (layout_of c)
+layouts_hold bytes c e = layout_holds c (sound bytes c e)
+
+pub layout_is : (bytes : List ℕ) (c : Cube) → desc_of bytes ≡ Some c → layout_in bytes ≡ layout_of c
+unfolding layout_in
+layout_is bytes c e = ap layout_or e
+
+-- the layout of bytes that are a descriptor
+pub is_layout : (bytes : List ℕ) → is_some (desc_of bytes) ≡ true → IsLayout (layout_in bytes)
+is_layout bytes h = by (desc_of bytes) refl h where
+  by : (o : Option Cube) → desc_of bytes ≡ o → is_some o ≡ true → IsLayout (layout_in bytes)
+  by (Some c) e h = subst (λ (l : Layout). IsLayout l) (sym (layout_is bytes c e)) (layouts_hold bytes c e)
+  by None e h = absurd cc

@@ -1,0 +1,170 @@
+-- What the step files of a cube are read by.
+use Rattle.std.specs.Prelude.{ℕ, ◌+◌, Bool, true, false, ◌==◌, ◌&&◌, not, List, [], ◌∷◌, ◌++◌, Option, Some, None, drop, filter, length, map, option_to_list, slice_get, slice_index_or}
+use Rattle.std.specs.List.{filter_map, flat_map, position_or_len, range_with_len}
+use Rattle.cube_val.specs.declared.form.ColDesc.{ColDesc}
+use Rattle.cube_val.specs.declared.form.WideCol.{WideCol}
+use Rattle.cube_val.specs.declared.val.ColType.TheVariants as ty
+use Rattle.cube_desc.specs.Cube.{Cube}
+use Rattle.cube_desc.specs.Forms.{form_of}
+use Rattle.cube_desc.specs.Meaning.{desc_of}
+use Rattle.cube_desc.specs.declared.desc.MeasureDesc.{MeasureDesc}
+use Rattle.measure_laws.specs.declared.measure.MeasureForm.{MeasureForm}
+use Rattle.measure_laws.specs.declared.measure.MeasureForm.TheVariants as measure
+use Rattle.step_fields.specs.declared.column.Column.{Column}
+use Rattle.cube_fields.specs.declared.forms.Extremes.{Extremes}
+use Rattle.step_codec.specs.Tables.{TableShape}
+use Rattle.step_codec.specs.declared.layout.DictColumn.{DictColumn}
+use Rattle.step_codec.specs.declared.layout.KeptForm.{KeptForm}
+use Rattle.step_codec.specs.declared.layout.KeptForm.TheVariants as forms
+use Rattle.step_codec.specs.declared.layout.Layout.{Layout}
+use Rattle.step_files.specs.declared.measures.Kept.{Kept}
+
+-- ---- tables and flat rows
+
+abbrev pub columns_in : List ColDesc → List Bool → List Column
+columns_in [] no_nulls = []
+columns_in (col ∷ cols) [] = []
+columns_in (col ∷ cols) (no_null ∷ no_nulls) = record { ty = col.ty; no_null = no_null } ∷ columns_in cols no_nulls
+
+-- the table with a number
+abbrev pub table_of : Cube → ℕ → TableShape
+table_of c t = record { columns = columns_in (form_of c t).cols (form_of c t).no_null; key = (form_of c t).key }
+
+unfoldable pub tables_of : Cube → List TableShape
+tables_of c = map (table_of c) (range_with_len 0 (length c.tables))
+
+abbrev pub no_table : TableShape
+no_table = record { columns = []; key = [] }
+
+abbrev pub no_column : Column
+no_column = record { ty = ty.Int; no_null = false }
+
+-- a column of one of the tables
+abbrev pub column_at : List TableShape → WideCol → Column
+column_at tables w = slice_index_or (slice_index_or tables w.table no_table).columns w.column no_column
+
+-- of the columns of a joined row those that measures are of, which come last
+abbrev pub measured : Cube → List WideCol
+measured c = drop (length c.rowkey + length c.derived) c.plan.wide
+
+-- the columns of a flat row: those of the rowkey, and those that measures are of
+unfoldable pub flat_of : Cube → List Column
+flat_of c = map (column_at (tables_of c)) c.rowkey ++ map (column_at (tables_of c)) (measured c)
+
+-- ---- dictionaries
+
+abbrev pub is_column : ℕ → WideCol → Bool
+is_column column w = w.column == column
+
+-- the place in a flat row of the column that a measure is of
+abbrev pub place_of : Cube → Option ℕ → ℕ
+place_of c None = 0
+place_of c (Some column) = length c.rowkey + position_or_len (is_column column) (measured c)
+
+abbrev pub distinct_by : ℕ → MeasureForm → Option ℕ
+distinct_by place measure.Distinct = Some place
+distinct_by place measure.Count = None
+distinct_by place measure.Sum = None
+distinct_by place measure.Min = None
+distinct_by place measure.Max = None
+
+-- the place of the column whose different values a measure counts
+abbrev pub distinct_place : Cube → MeasureDesc → Option ℕ
+distinct_place c m = distinct_by (place_of c m.column) m.form
+
+-- the places of the columns whose different values are counted
+unfoldable pub distinct_places : Cube → List ℕ
+distinct_places c = filter_map (distinct_place c) c.measures
+
+-- the places of the columns that have a dictionary: those of the rowkey, and then one for each measure of different values
+abbrev pub dict_places : Cube → List ℕ
+dict_places c = range_with_len 0 (length c.rowkey) ++ distinct_places c
+
+abbrev pub dict_column : List Column → ℕ → DictColumn
+dict_column flat place = record { column = slice_index_or flat place no_column; place = place }
+
+-- ---- measures
+
+abbrev pub is_count : MeasureForm → Bool
+is_count measure.Count = true
+is_count measure.Sum = false
+is_count measure.Min = false
+is_count measure.Max = false
+is_count measure.Distinct = false
+
+abbrev pub kept_of : MeasureDesc → Kept
+kept_of m = record { form = m.form; column = m.column }
+
+-- the measures that are kept beside the count
+unfoldable pub kept_measures : Cube → List Kept
+kept_measures c = map kept_of (filter (λ m. not (is_count m.form)) c.measures)
+
+abbrev pub kept_by : ℕ → MeasureForm → Option KeptForm
+kept_by dict measure.Count = None
+kept_by dict measure.Sum = Some forms.Sum
+kept_by dict measure.Min = Some forms.Min
+kept_by dict measure.Max = Some forms.Max
+kept_by dict measure.Distinct = Some (forms.Distinct dict)
+
+-- the number of the dictionary behind a measure: each measure of different values has one, in order
+abbrev pub dict_after : ℕ → MeasureForm → ℕ
+dict_after dict measure.Distinct = dict + 1
+dict_after dict measure.Count = dict
+dict_after dict measure.Sum = dict
+dict_after dict measure.Min = dict
+dict_after dict measure.Max = dict
+
+-- the forms of measures that are kept, where the dictionaries of those of different values begin at a number
+abbrev pub forms_from : ℕ → List Kept → List KeptForm
+forms_from dict [] = []
+forms_from dict (k ∷ ks) = option_to_list (kept_by dict k.form) ++ forms_from (dict_after dict k.form) ks
+
+abbrev pub is_same : Option ℕ → Option ℕ → Bool
+is_same (Some a) (Some b) = a == b
+is_same (Some a) None = false
+is_same None b = false
+
+abbrev pub are_forms : MeasureForm → MeasureForm → Bool
+are_forms measure.Min measure.Max = true
+are_forms a b = false
+
+-- the one is a least value, and the other the greatest one of the same column
+abbrev pub are_extremes : Option Kept → Option Kept → Bool
+are_extremes (Some a) (Some b) = are_forms a.form b.form && is_same a.column b.column
+are_extremes (Some a) None = false
+are_extremes None b = false
+
+-- the places of the measures' cells, behind that of the count
+abbrev pub extremes_at : ℕ → ℕ → Extremes
+extremes_at i j = record { least = i + 1; greatest = j + 1 }
+
+abbrev pub extremes_with : List Kept → ℕ → List Extremes
+extremes_with measures i = map (extremes_at i) (filter (λ j. are_extremes (slice_get measures i) (slice_get measures j)) (range_with_len 0 (length measures)))
+
+unfoldable pub extremes_of : List Kept → List Extremes
+extremes_of measures = flat_map (extremes_with measures) (range_with_len 0 (length measures))
+
+-- ---- the layout
+
+unfoldable pub layout_of : Cube → Layout
+layout_of c = record {
+  tables = tables_of c;
+  flat = flat_of c;
+  dicts = map (dict_column (flat_of c)) (dict_places c);
+  dims = length c.rowkey;
+  measures = forms_from (length c.rowkey) (kept_measures c);
+  extremes = extremes_of (kept_measures c);
+  masks = c.masks;
+}
+
+-- the layout of other bytes
+abbrev pub no_layout : Layout
+no_layout = record { tables = []; flat = []; dicts = []; dims = 0; measures = []; extremes = []; masks = [] }
+
+abbrev pub layout_or : Option Cube → Layout
+layout_or None = no_layout
+layout_or (Some c) = layout_of c
+
+-- the layout of the cube that bytes describe
+unfoldable pub layout_in : List ℕ → Layout
+layout_in bytes = layout_or (desc_of bytes)
