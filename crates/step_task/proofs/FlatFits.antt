@@ -18,7 +18,7 @@ use Rattle.cube_val.specs.declared.val.Val.{Val}
 use Rattle.cube_val.specs.declared.val.Val.TheVariants.{Null}
 use Rattle.cube_val.specs.Values.{FitsType}
 use Rattle.flat_join.specs.Flat.{flat_of, without_derived}
-use Rattle.joined_rows.specs.Joins.{fact_of, is_joined, is_match, lookups_of, match_in, matches_of, part_value, wide_row, wide_value}
+use Rattle.flat_join.specs.Joins.{fact_of, is_joined, is_match, lookups_of, match_in, matches_of, part_value, wide_row, wide_value}
 use Rattle.range_list.specs.Ranges.{Interval}
 use Rattle.step_codec.specs.Bodies.{FitsAllLoaded}
 use Rattle.step_codec.specs.Layouts.{row_limit}
