@@ -25,7 +25,7 @@ use Rattle.script_text.specs.declared.verb.Line.{Line}
 use Rattle.coordinator.specs.Coordinator.{IsFront, IsGrown, IsSound, asked_turns, is_done}
 use Rattle.coordinator.specs.Served.{rows_at, served}
 use Rattle.coordinator.specs.Stops.{AsksAmong, stops_along, stops_of}
-use Rattle.coordinator.specs.Taken.{IsTaken, IsTakenPart}
+use Rattle.coordinator.specs.ExecutedLines.{HasExecuted, HasExecutedPart}
 
 -- ---- the stopper
 
@@ -80,12 +80,12 @@ some_turn (y ∷ xs) ys zs x e h = cc
 pub none-before : (old new : BoardModel) (later : List (Turn Ask)) → IsGrown old later new → turns new ≡ [] → turns old ≡ []
 none-before old new later g h = front_none (turns old) later (turns new) g.turns h
 
-pub part-before : (old : BoardModel) (line : Line) (new : BoardModel) → IsTakenPart old line new → turns new ≡ [] → turns old ≡ []
+pub part-before : (old : BoardModel) (line : Line) (new : BoardModel) → HasExecutedPart old line new → turns new ≡ [] → turns old ≡ []
 part-before old line new (inl g) h = none-before old new [] g h
 part-before old line new (inr q) h = none-before old new (take q.count (asked_turns line.number q.session)) q.grown h
 
 -- a line that was taken is a turn
-pub taken-some : (honest : Type 0) (tables : List LoadedTable) (old : BoardModel) (line : Line) (said : Block) (new : BoardModel) → IsTaken honest tables old line said new → turns new ≡ [] → ⊥
+pub taken-some : (honest : Type 0) (tables : List LoadedTable) (old : BoardModel) (line : Line) (said : Block) (new : BoardModel) → HasExecuted honest tables old line said new → turns new ≡ [] → ⊥
 taken-some honest tables old line said new (inl c) h =
     some_turn (turns old) [] (turns new) (Takes line.number (command_of served (rows_at tables line.number) line.verb)) c.added.turns h
 taken-some honest tables old line said new (inr q) h =

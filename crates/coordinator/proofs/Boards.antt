@@ -26,7 +26,7 @@ use Rattle.run_transcript.specs.Runs.{line_of, lines_in, lines_taken, turn_of, t
 use Rattle.run_transcript.specs.Served.{Inputs}
 use Rattle.run_transcript.proofs.Histories.{entries_along-append}
 use Rattle.script_text.specs.declared.verb.Line.{Line}
-use Rattle.coordinator.specs.Coordinator.{AreLanded, IsFront, IsGrown, IsOfStep, IsSound, IsWorked, entries_in, stops_in}
+use Rattle.coordinator.specs.Coordinator.{AreNotInFlight, IsFront, IsGrown, IsOfStep, IsSound, IsWorked, entries_in, stops_in}
 use Rattle.coordinator.specs.Runs.{AreTrusted, IsOverNone}
 use Rattle.coordinator.specs.Served.{served}
 use Rattle.coordinator.specs.Stops.{request_for, requests_by, stops_along, stops_at}
@@ -125,20 +125,20 @@ stops_steered control.Discard job s (Some state) still = attempt_none s.job.in_f
 stops_steered control.Resume job s (Some state) still = refl
 
 -- where no job is in flight, a command finds none
-pub no-request : (w : World Ask) (control : Control) (job : ℕ) → AreLanded w.jobs → requests_by job (steer_answer control job (job_of w job)) ≡ []
-no-request w control job landed = by_found (job_of w job) refl
+pub no-request : (w : World Ask) (control : Control) (job : ℕ) → AreNotInFlight w.jobs → requests_by job (steer_answer control job (job_of w job)) ≡ []
+no-request w control job not_in_flight = by_found (job_of w job) refl
   where
     by_found : (found : Option Submitted) → job_of w job ≡ found → requests_by job (steer_answer control job found) ≡ []
     by_found None e = refl
-    by_found (Some s) e = stops_steered control job s (state_after (act_of control) s.job.state) (landed job s e)
+    by_found (Some s) e = stops_steered control job s (state_after (act_of control) s.job.state) (not_in_flight job s e)
 
-pub no-stops-command : (w : World Ask) (line : ℕ) (command : Command Ask) → AreLanded w.jobs → stops_along fixed w (Takes line command ∷ []) ≡ []
-no-stops-command w line (commands.Steer control job) landed = ap (λ (rs : List Request). rs ++ []) (no-request w control job landed)
-no-stops-command w line (commands.Load place rows) landed = refl
-no-stops-command w line (commands.Submit kind range) landed = refl
-no-stops-command w line (commands.Drop range) landed = refl
-no-stops-command w line (commands.Ask session query) landed = refl
-no-stops-command w line (commands.Note noted) landed = refl
+pub no-stops-command : (w : World Ask) (line : ℕ) (command : Command Ask) → AreNotInFlight w.jobs → stops_along fixed w (Takes line command ∷ []) ≡ []
+no-stops-command w line (commands.Steer control job) not_in_flight = ap (λ (rs : List Request). rs ++ []) (no-request w control job not_in_flight)
+no-stops-command w line (commands.Load place rows) not_in_flight = refl
+no-stops-command w line (commands.Submit kind range) not_in_flight = refl
+no-stops-command w line (commands.Drop range) not_in_flight = refl
+no-stops-command w line (commands.Ask session query) not_in_flight = refl
+no-stops-command w line (commands.Note noted) not_in_flight = refl
 
 -- ---- what is trusted
 

@@ -25,7 +25,7 @@ use Rattle.script_text.specs.declared.verb.Verb.TheVariants as verb
 use Rattle.coordinator.specs.Claims.{IsAloneInFlight, IsStepping}
 use Rattle.coordinator.specs.Coordinator.{IsIdle, is_query}
 use Rattle.coordinator.specs.Served.{served}
-use Rattle.coordinator.proofs.Landed.{alone-claimed, landed-absent, landed-added, landed-ended, landed-set, landed-steered}
+use Rattle.coordinator.proofs.InFlight.{alone-claimed, not_in_flight-absent, not_in_flight-added, not_in_flight-ended, not_in_flight-set, not_in_flight-steered}
 
 -- a set more
 past_more : (past : List ReadySet) (ready : ReadySet) (n : ℕ) → n ≤ length past → n ≤ length (past ++ ready ∷ [])
@@ -74,20 +74,20 @@ idle_steered w control job (Some s) e i = record {
   steps = i.steps;
   waiting = i.waiting;
   asked = i.asked;
-  landed = landed-set w.jobs job s (record s { job = next (act_of control) s.job }) e (landed-steered control s (i.landed job s e)) (λ m u other at. i.landed m u at);
+  not_in_flight = not_in_flight-set w.jobs job s (record s { job = next (act_of control) s.job }) e (not_in_flight-steered control s (i.not_in_flight job s e)) (λ m u other at. i.not_in_flight m u at);
 }
 
 idle_accepted : (n : ℕ) (w : World Query) (command : Command Query) → is_ask command ≡ false → IsIdle w → IsIdle (accepted n w command)
-idle_accepted n w (Load place rows) h i = record { workers = i.workers; answers = i.answers; steps = i.steps; waiting = i.waiting; asked = i.asked; landed = i.landed }
+idle_accepted n w (Load place rows) h i = record { workers = i.workers; answers = i.answers; steps = i.steps; waiting = i.waiting; asked = i.asked; not_in_flight = i.not_in_flight }
 idle_accepted n w (Submit kind range) h i = record {
   workers = i.workers;
   answers = i.answers;
   steps = i.steps;
   waiting = i.waiting;
   asked = i.asked;
-  landed = landed-added w.jobs (record { job = new_job (length w.jobs + 1) kind n; range = range; tables = None }) refl i.landed;
+  not_in_flight = not_in_flight-added w.jobs (record { job = new_job (length w.jobs + 1) kind n; range = range; tables = None }) refl i.not_in_flight;
 }
-idle_accepted n w (Drop range) h i = record { workers = i.workers; answers = λ session. past_more w.past w.ready (w.answered session) (i.answers session); steps = i.steps; waiting = i.waiting; asked = i.asked; landed = i.landed }
+idle_accepted n w (Drop range) h i = record { workers = i.workers; answers = λ session. past_more w.past w.ready (w.answered session) (i.answers session); steps = i.steps; waiting = i.waiting; asked = i.asked; not_in_flight = i.not_in_flight }
 idle_accepted n w (Steer control job) h i = idle_steered w control job (job_of w job) refl i
 idle_accepted n w (Ask session query) h i = absurd cc
 idle_accepted n w (Note noted) h i = i
@@ -99,7 +99,7 @@ idle_by None n w command h i = idle_accepted n w command h i
 pub idle-command : (w : World Query) (line : ℕ) (command : Command Query) → is_ask command ≡ false → IsIdle w → IsIdle (step fixed w (Takes line command))
 idle-command w line command h i =
     idle_by (verdict fixed w command) (steps_of fixed command) (record w { line = line }) command h
-    (record { workers = i.workers; answers = i.answers; steps = i.steps; waiting = i.waiting; asked = i.asked; landed = i.landed })
+    (record { workers = i.workers; answers = i.answers; steps = i.steps; waiting = i.waiting; asked = i.asked; not_in_flight = i.not_in_flight })
 
 line_steered : (w : World Query) (control : Control) (job : ℕ) (found : Option Submitted) → (steered w control job found).line ≡ w.line
 line_steered w control job None = refl
@@ -128,7 +128,7 @@ stepping_claimed w job attempt (Some s) e h i = record {
   steps = ap (λ (claims : List (ℕ × ℕ)). claims ++ (job, attempt) ∷ []) i.steps;
   waiting = i.waiting;
   asked = i.asked;
-  alone = alone-claimed w.jobs job attempt s (record s { job = next Act.Claim s.job; tables = Some (unwrap_or s.tables (in_force w)) }) e h refl i.landed;
+  alone = alone-claimed w.jobs job attempt s (record s { job = next Act.Claim s.job; tables = Some (unwrap_or s.tables (in_force w)) }) e h refl i.not_in_flight;
 }
 
 pub stepping-claim : (w : World Query) (job attempt : ℕ) → IsNextAttempt (job_of w job) attempt → IsIdle w → IsStepping (step fixed w (Claims job attempt)) job attempt
@@ -151,23 +151,23 @@ record IsQuiet (w : World Query) : Type 0 where
 module _ (w : World Query) (job attempt : ℕ) (i : IsQuiet w) (alone : IsAloneInFlight job attempt w.jobs) where
   idle_ended_as : (e : Ended) (outcome : Outcome) (s : Submitted) → job_of w job ≡ Some s → end_by outcome s.job attempt ≡ e → IsIdle (ended_as e w job s)
   idle_ended_as ended.Stale outcome s there e =
-      record { workers = i.workers; answers = i.answers; steps = i.steps; waiting = i.waiting; asked = i.asked; landed = landed-ended w.jobs job attempt alone ended.Stale outcome s there e }
+      record { workers = i.workers; answers = i.answers; steps = i.steps; waiting = i.waiting; asked = i.asked; not_in_flight = not_in_flight-ended w.jobs job attempt alone ended.Stale outcome s there e }
   idle_ended_as ended.Advanced outcome s there e =
-      record { workers = i.workers; answers = i.answers; steps = i.steps; waiting = i.waiting; asked = i.asked; landed = landed-ended w.jobs job attempt alone ended.Advanced outcome s there e }
+      record { workers = i.workers; answers = i.answers; steps = i.steps; waiting = i.waiting; asked = i.asked; not_in_flight = not_in_flight-ended w.jobs job attempt alone ended.Advanced outcome s there e }
   idle_ended_as ended.Finished outcome s there e = record {
     workers = i.workers;
     answers = λ session. past_more w.past w.ready (w.answered session) (i.answers session);
     steps = i.steps;
     waiting = i.waiting;
     asked = i.asked;
-    landed = landed-ended w.jobs job attempt alone ended.Finished outcome s there e;
+    not_in_flight = not_in_flight-ended w.jobs job attempt alone ended.Finished outcome s there e;
   }
   idle_ended_as ended.Failed outcome s there e =
-      record { workers = i.workers; answers = i.answers; steps = i.steps; waiting = i.waiting; asked = i.asked; landed = landed-ended w.jobs job attempt alone ended.Failed outcome s there e }
+      record { workers = i.workers; answers = i.answers; steps = i.steps; waiting = i.waiting; asked = i.asked; not_in_flight = not_in_flight-ended w.jobs job attempt alone ended.Failed outcome s there e }
 
   idle_ended : (outcome : Outcome) (found : Option Submitted) → job_of w job ≡ found → IsIdle (step_ended w job attempt outcome found)
   idle_ended outcome None e =
-      record { workers = i.workers; answers = i.answers; steps = i.steps; waiting = i.waiting; asked = i.asked; landed = landed-absent w.jobs job attempt alone e }
+      record { workers = i.workers; answers = i.answers; steps = i.steps; waiting = i.waiting; asked = i.asked; not_in_flight = not_in_flight-absent w.jobs job attempt alone e }
   idle_ended outcome (Some s) e = idle_ended_as (end_by outcome s.job attempt) outcome s e refl
 
 pub idle-end : (w : World Query) (job attempt : ℕ) (outcome : Outcome) → IsStepping w job attempt → IsIdle (step fixed w (StepEnds job attempt outcome))

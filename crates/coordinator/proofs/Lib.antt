@@ -12,11 +12,11 @@ pub mod Start
 pub mod Tables
 pub mod Tallies
 pub mod Results
-pub mod Still
+pub mod NextTurns
 pub mod Blocks
 pub mod Endings
-pub mod Landed
+pub mod InFlight
 pub mod NextTasks
-pub mod TieFacts
-pub mod TiedFacts
+pub mod StepOutcomeFacts
+pub mod HandAgreementFacts
 pub mod Asked

@@ -22,7 +22,7 @@ use Rattle.coordinator.specs.Coordinator.{HasWritten, HasWrittenPart, IsCounted,
 use Rattle.coordinator.specs.Runs.{fault_ends, run_ends}
 use Rattle.coordinator.specs.Served.{rows_at, served}
 use Rattle.coordinator.specs.Stops.{stops_along}
-use Rattle.coordinator.specs.Taken.{IsPartOfQuery, IsTaken, IsTakenPart}
+use Rattle.coordinator.specs.ExecutedLines.{IsPartOfQuery, HasExecuted, HasExecutedPart}
 use Rattle.coordinator.proofs.Boards.{entries-grown, grown-added, lines-grown, named-grown, no-stops-grown, trusted-grown, worked-entries}
 use Rattle.coordinator.proofs.Ends.{counted-silent}
 use Rattle.coordinator.proofs.Scripts.{command_found, rest_more}
@@ -34,14 +34,14 @@ use Rattle.coordinator.proofs.Written.{all_then, part_front, part_then}
 
 module _ (honest : Type 0) (script : List Line) (tables : List LoadedTable) (old : BoardModel) (taken : ℕ) (line : Line) (said : Block) (new : BoardModel)
     (rise : RisesFrom 0 script) (e : slice_get script taken ≡ Some line) (s : IsSound (inputs_in script tables) old taken) where
-  pub tells-taken : IsTaken honest tables old line said new → (later : List (Turn Query)) × TellsLine honest script tables old line said later new
+  pub tells-taken : HasExecuted honest tables old line said new → (later : List (Turn Query)) × TellsLine honest script tables old line said later new
   tells-taken (inl c) = (Takes line.number (command_of served (rows_at tables line.number) line.verb) ∷ [], tells-command honest script tables old taken line said new rise e s.idle c)
   tells-taken (inr q) = (asked_turns line.number q.session ++ QueryEnds line.number q.out ∷ [], tells-query honest script tables old taken line said new rise e s q)
 
-  pub sound-taken : IsTaken honest tables old line said new → IsSound (inputs_in script tables) new (taken + 1)
+  pub sound-taken : HasExecuted honest tables old line said new → IsSound (inputs_in script tables) new (taken + 1)
   sound-taken t = let tells = tells-taken t in sound-line honest script tables old taken line said tells.0 new s e tells.1
 
-  pub written-taken : (before mid written : Option (List ℕ)) → IsTaken honest tables old line said new → HasWritten honest script old before mid
+  pub written-taken : (before mid written : Option (List ℕ)) → HasExecuted honest tables old line said new → HasWritten honest script old before mid
       → written ≡ append_known mid (block_text line.number said) → HasWritten honest script new before written
   written-taken before mid written t h w = λ trusted.
       let tells = tells-taken t in
@@ -49,7 +49,7 @@ module _ (honest : Type 0) (script : List Line) (tables : List LoadedTable) (old
       all_then before mid written (told_text (entries_in script old)) (block_text line.number said) (told_text (entries_in script new)) (h first.0) w
       (text-line honest script tables old taken line said tells.0 new s e tells.1 trusted)
 
-  pub part-taken : (before mid written : Option (List ℕ)) → IsTaken honest tables old line said new → HasWritten honest script old before mid
+  pub part-taken : (before mid written : Option (List ℕ)) → HasExecuted honest tables old line said new → HasWritten honest script old before mid
       → AppendsPart mid written (block_text line.number said) → HasWrittenPart honest script new before written
   part-taken before mid written t h w = λ trusted.
       let tells = tells-taken t in
@@ -112,12 +112,12 @@ module _ (script : List Line) (tables : List LoadedTable) (old : BoardModel) (ta
         front-grown (asked_turns line.number q.session) (line.number ∷ []) (lines_in (drop (taken + 1) script))
         (subst (λ (m : ℕ). IsGrown old (take m (asked_turns line.number q.session)) new) c q.grown) (ap (λ (k : Command Query). Takes line.number k ∷ QueryTakes line.number ∷ []) asks) refl first_line refl
 
-    pub front-part : IsTakenPart old line new → IsFront (inputs_in script tables) new
+    pub front-part : HasExecutedPart old line new → IsFront (inputs_in script tables) new
     front-part (inl g) = front-grown [] [] (lines_in (drop taken script)) g refl refl refl refl
     front-part (inr q) = front-query q q.count refl
 
 -- what is written stays a part
-pub part-of-part : (honest : Type 0) (script : List Line) (old : BoardModel) (line : Line) (new : BoardModel) (before written : Option (List ℕ)) → IsTakenPart old line new
+pub part-of-part : (honest : Type 0) (script : List Line) (old : BoardModel) (line : Line) (new : BoardModel) (before written : Option (List ℕ)) → HasExecutedPart old line new
     → HasWritten honest script old before written → HasWrittenPart honest script new before written
 part-of-part honest script old line new before written (inl g) h = part-grown honest script old new [] before written g h
 part-of-part honest script old line new before written (inr q) h = part-grown honest script old new (take q.count (asked_turns line.number q.session)) before written q.grown h
@@ -131,14 +131,14 @@ ends_none line session (suc (suc zero)) = (refl, refl)
 ends_none line session (suc (suc (suc n))) = (refl, refl)
 
 pub counted-taken : {H : Type 0} (runs faults : H → ℕ) (base hands : List H) (honest : Type 0) (tables : List LoadedTable) (old : BoardModel) (line : Line) (said : Block) (new : BoardModel)
-    → IsTaken honest tables old line said new → IsCounted runs faults base hands old → IsCounted runs faults base hands new
+    → HasExecuted honest tables old line said new → IsCounted runs faults base hands old → IsCounted runs faults base hands new
 counted-taken runs faults base hands honest tables old line said new (inl c) h =
     counted-silent runs faults base hands old new (Takes line.number (command_of served (rows_at tables line.number) line.verb) ∷ [])
     (grown-added old (Takes line.number (command_of served (rows_at tables line.number) line.verb)) new c.added) refl refl h
 counted-taken runs faults base hands honest tables old line said new (inr q) h =
     counted-silent runs faults base hands old new (asked_turns line.number q.session ++ QueryEnds line.number q.out ∷ []) q.grown refl refl h
 
-pub counted-part : {H : Type 0} (runs faults : H → ℕ) (base hands : List H) (old : BoardModel) (line : Line) (new : BoardModel) → IsTakenPart old line new
+pub counted-part : {H : Type 0} (runs faults : H → ℕ) (base hands : List H) (old : BoardModel) (line : Line) (new : BoardModel) → HasExecutedPart old line new
     → IsCounted runs faults base hands old → IsCounted runs faults base hands new
 counted-part runs faults base hands old line new (inl g) h = counted-silent runs faults base hands old new [] g refl refl h
 counted-part runs faults base hands old line new (inr q) h =

@@ -26,10 +26,10 @@ use Rattle.script_text.specs.declared.block.Block.{Block}
 use Rattle.script_text.specs.declared.block.Block.TheVariants as block
 use Rattle.script_text.specs.declared.verb.Line.{Line}
 use Rattle.coordinator.specs.Answers.{CanEnd, IsAccepted, IsAnswerOf, IsAnswerOver, IsTakenQuery}
-use Rattle.coordinator.specs.Coordinator.{AreLanded, IsGrown, IsIdle, IsSound, RisesFrom, asked_turns, entries_in, inputs_in}
+use Rattle.coordinator.specs.Coordinator.{AreNotInFlight, IsGrown, IsIdle, IsSound, RisesFrom, asked_turns, entries_in, inputs_in}
 use Rattle.coordinator.specs.Runs.{IsOverNone}
 use Rattle.coordinator.specs.Served.{rows_at, served}
-use Rattle.coordinator.specs.Taken.{IsQuery}
+use Rattle.coordinator.specs.ExecutedLines.{IsQuery}
 use Rattle.coordinator.specs.Tasks.{HasTasks}
 use Rattle.coordinator.proofs.Boards.{entries-grown, grown-added, grown-same, grown-then, now-grown, trusted-grown}
 use Rattle.coordinator.proofs.NextTasks.{tasks-command, tasks-query_ended, tasks-query_taken}
@@ -130,7 +130,7 @@ module _ (w : World Query) (line session : ℕ) (i : IsIdle w) where
     asked =
         ap (filter (λ (q : Asked Query). not (q.waiting.line == line))) flies_alone
         ∙ ap (λ (t : Bool). cond (not t) (asked_now w line session ∷ []) []) (eq-eqb line line refl);
-    landed = subst (λ (x : World Query). AreLanded x.jobs) (sym taken_is) i.landed;
+    not_in_flight = subst (λ (x : World Query). AreNotInFlight x.jobs) (sym taken_is) i.not_in_flight;
   })
 
   -- a query changes no job

@@ -22,7 +22,7 @@ sound-start inputs some rise = record {
   named = refl;
   in_order = refl;
   later = rise;
-  idle = record { workers = some; answers = λ session. omega arith; steps = refl; waiting = refl; asked = refl; landed = λ n s e. absurd (no_job n s e) };
+  idle = record { workers = some; answers = λ session. omega arith; steps = refl; waiting = refl; asked = refl; not_in_flight = λ n s e. absurd (no_job n s e) };
   all_told = tt;
   no_stops = refl;
   tasks = tasks-start inputs.workers;

@@ -22,7 +22,7 @@ use Rattle.coordinator.specs.Coordinator.{IsGrown, IsIdle, IsSound, RisesFrom, e
 use Rattle.coordinator.specs.Runs.{AreTrusted}
 use Rattle.coordinator.specs.Served.{rows_at, served}
 use Rattle.coordinator.specs.Stops.{stops_along}
-use Rattle.coordinator.specs.Taken.{IsCommand}
+use Rattle.coordinator.specs.ExecutedLines.{IsCommand}
 use Rattle.coordinator.specs.Tasks.{HasTasks, HasTasksIn, products_taken}
 use Rattle.coordinator.proofs.Boards.{entries-grown, grown-added, lines-grown, named-grown, no-stops-command, no-stops-grown, now-grown}
 use Rattle.coordinator.proofs.Idle.{idle-command, line-command, no_ask}
@@ -91,7 +91,7 @@ module _ (honest : Type 0) (script : List Line) (tables : List LoadedTable) (old
         last = ap (λ (w : World Query). w.line) after ∙ line-command (now old) line.number (command_of served (rows_at tables line.number) line.verb);
         idle = subst IsIdle (sym after)
             (idle-command (now old) line.number (command_of served (rows_at tables line.number) line.verb) (no_ask (rows_at tables line.number) line.verb c.no_query) idle);
-        no_stops = no-stops-command (now old) line.number (command_of served (rows_at tables line.number) line.verb) idle.landed;
+        no_stops = no-stops-command (now old) line.number (command_of served (rows_at tables line.number) line.verb) idle.not_in_flight;
         tasks = λ h.
             subst (HasTasks (now new)) (sym c.products)
             (subst (λ (w : World Query). HasTasks w (products_taken (now old) (command_of served (rows_at tables line.number) line.verb) old.products)) (sym after)

@@ -103,8 +103,8 @@ pub record IsWorked (old new : BoardModel) : Type 0 where
 -- ---- what the coordinator keeps
 
 -- no job is in flight
-abbrev pub AreLanded : List Submitted → Type 0
-AreLanded jobs = (n : ℕ) (s : Submitted) → job_at jobs n ≡ Some s → s.job.in_flight ≡ false
+abbrev pub AreNotInFlight : List Submitted → Type 0
+AreNotInFlight jobs = (n : ℕ) (s : Submitted) → job_at jobs n ≡ Some s → s.job.in_flight ≡ false
 
 -- nothing is in flight and no query waits, there is a worker, and no answer was over a set that is still to come
 pub record IsIdle (w : World Ask) : Type 0 where
@@ -113,7 +113,7 @@ pub record IsIdle (w : World Ask) : Type 0 where
   pub steps : w.steps ≡ []
   pub waiting : w.waiting ≡ []
   pub asked : w.asked ≡ []
-  pub landed : AreLanded w.jobs
+  pub not_in_flight : AreNotInFlight w.jobs
 
 -- the entries of the turns of a board
 abbrev pub entries_in : List Line → BoardModel → List Entry
@@ -159,7 +159,7 @@ pub record IsCounted {H : Type 0} (runs faults : H → ℕ) (base hands : List H
   pub failed : Risen faults base hands (fault_ends (map event_of (turns board)))
 
 -- nothing may come next: no job waits for a claim, and what the next command waits for isn't there, if there is a next one
-pub record IsStill (script : List Line) (taken : ℕ) (w : World Ask) : Type 0 where
+pub record HasNoNextTurn (script : List Line) (taken : ℕ) (w : World Ask) : Type 0 where
   pub queue : w.queue ≡ []
   pub waits : (line : Line) → slice_get script taken ≡ Some line → MayNote w (awaited line.verb) → ⊥
 

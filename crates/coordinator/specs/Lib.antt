@@ -2,10 +2,10 @@ pub mod Served
 pub mod Runs
 pub mod Answers
 pub mod Coordinator
-pub mod Taken
+pub mod ExecutedLines
 pub mod Claims
-pub mod Ties
-pub mod Tied
+pub mod StepOutcomes
+pub mod HandAgreement
 pub mod Stops
 pub mod Tasks
 pub mod Examples

@@ -17,7 +17,7 @@ ghost use Rattle.run_transcript.specs.Served.{command_of};
 ghost use Rattle.script_text.specs.declared.verb.Verb.{Verb};
 ghost use Rattle.script_text.specs.declared.verb.Verb.TheVariants as verb;
 ghost use Rattle.step_fields.specs.Fits.{FitsRows, IsDayRange};
-ghost use Rattle.coordinator.specs.Coordinator.{AreLanded, IsServedLine, awaited, is_query, load_of};
+ghost use Rattle.coordinator.specs.Coordinator.{AreNotInFlight, IsServedLine, awaited, is_query, load_of};
 ghost use Rattle.coordinator.specs.Served.{rows_at, served};
 ghost use Rattle.coordinator.specs.Tasks.{FitsCommand, products_taken};
 
@@ -139,7 +139,7 @@ fn control_job<H: Hand<SmallWork> + Drop, P: Stopper>(
 ) -> Block
     requires room { 0 < board.old.room }
     requires above { (now board.old).line < line }
-    requires landed { AreLanded (now board.old).jobs }
+    requires not_in_flight { AreNotInFlight (now board.old).jobs }
     ensures added { IsAdded board.old (Takes line (command.Steer control job)) board.new }
     ensures block { (said : Verb) → entry_of served (now board.old) line (Some said) (command.Steer control job) ≡ Told line result }
     ensures products { board.new.products ≡ board.old.products }
@@ -257,7 +257,7 @@ pub fn take_command<H: Hand<SmallWork> + Drop, P: Stopper>(
     requires served { IsServedLine (map load_of loads.now) line.now }
     requires fit { All HasFittingRows (map load_of loads.now) }
     requires no_query { is_query line.now.verb ≡ false }
-    requires landed { AreLanded (now board.old).jobs }
+    requires not_in_flight { AreNotInFlight (now board.old).jobs }
     ensures added { OnOk result (IsAdded board.old (Takes line.now.number (command_of served (rows_at (map load_of loads.now) line.now.number) line.now.verb)) board.new) }
     ensures block { IfOk result (λ block. entry_of served (now board.old) line.now.number (Some line.now.verb) (command_of served (rows_at (map load_of loads.now) line.now.number) line.now.verb) ≡ Told line.now.number block) }
     ensures fits { OnOk result (FitsCommand (command_of served (rows_at (map load_of loads.now) line.now.number) line.now.verb)) }

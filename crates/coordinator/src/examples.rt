@@ -1,9 +1,9 @@
-// The definitions that tie a run to its hand and its stopper, computed on small runs.
+// The definitions of what a run says of its hand and its stopper, computed on small runs.
 
 ghost use Rattle.std.specs.Prelude.{◌≡◌, ⊤, [], ◌∷◌, All, None, Some};
 ghost use Rattle.coordinator.specs.Examples.{four_calls, killed_run, one_kill, steered};
 ghost use Rattle.coordinator.specs.Stops.{stops_along, stops_of};
-ghost use Rattle.coordinator.specs.Ties.{AreCallsOf, EndsBy, IsEndBy, IsUndamaged, StandsAmong, answered_ends, calls_of, ends_of};
+ghost use Rattle.coordinator.specs.StepOutcomes.{AreCallsOf, EndsBy, IsEndBy, IsUndamaged, StandsAmong, answered_ends, calls_of, ends_of};
 ghost use Rattle.outside.specs.Stoppers.{request_of};
 ghost use Rattle.outside.specs.declared.hand.HandFault.TheVariants as fault;
 ghost use Rattle.run_history.specs.World.{start};

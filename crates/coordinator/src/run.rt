@@ -14,12 +14,12 @@ ghost use Rattle.run_transcript.specs.Entries.{tally_of};
 ghost use Rattle.run_transcript.specs.Runs.{turns_of};
 ghost use Rattle.run_transcript.specs.Transcripts.{transcript};
 ghost use Rattle.script_text.specs.Blocks.{end_text};
-ghost use Rattle.coordinator.specs.Coordinator.{AreGiven, HasWritten, IsCounted, IsFront, IsSound, IsStill, inputs_in, is_done, load_of};
+ghost use Rattle.coordinator.specs.Coordinator.{AreGiven, HasWritten, IsCounted, IsFront, IsSound, HasNoNextTurn, inputs_in, is_done, load_of};
 ghost use Rattle.coordinator.specs.Runs.{AreTrusted, IsRunOver, fault_ends, run_ends, status_of};
 ghost use Rattle.coordinator.specs.Served.{inputs_of, served};
 ghost use Rattle.coordinator.specs.Stops.{AsksAmong, stops_of};
-ghost use Rattle.coordinator.specs.Tied.{IsTied};
-ghost use Rattle.coordinator.specs.Ties.{AreCallsOf, IsEndBy, IsUndamaged, StandsAmong};
+ghost use Rattle.coordinator.specs.HandAgreement.{AgreesWithHand};
+ghost use Rattle.coordinator.specs.StepOutcomes.{AreCallsOf, IsEndBy, IsUndamaged, StandsAmong};
 
 use crate::fault::RunFault;
 use crate::listing::tally_of;
@@ -78,7 +78,7 @@ fn end<H: Hand<SmallWork> + Drop, S: Sink>(
     sink: &mut S,
 ) -> Result<(), RunFault>
     requires sound { IsSound (inputs_in coordinator.now.script (map load_of coordinator.now.loads.items)) coordinator.now.board coordinator.now.taken }
-    requires still { IsStill coordinator.now.script coordinator.now.taken (now coordinator.now.board) }
+    requires no_next_turn { HasNoNextTurn coordinator.now.script coordinator.now.taken (now coordinator.now.board) }
     ensures done { is_done coordinator.now.script coordinator.now.taken (now coordinator.now.board) ≡ true }
     ensures written { OnOk result (S.written sink.new ≡ append_known (S.written sink.old) (end_text (tally_of (now coordinator.now.board).jobs) (length (now coordinator.now.board).ready))) }
     ensures part { OnErr result (AppendsPart (S.written sink.old) (S.written sink.new) (end_text (tally_of (now coordinator.now.board).jobs) (length (now coordinator.now.board).ready))) }
@@ -115,7 +115,7 @@ fn drive<R: Threads + Wait + Sync, H: Hand<SmallWork> + Drop, P: Stopper, S: Sin
         → AreTrusted H.honest coordinator.new.board.workers (turns coordinator.new.board)
         → AppendsPart before (S.written sink.new) (transcript served (inputs_in coordinator.old.script (map load_of coordinator.old.loads.items)) (map event_of (turns coordinator.new.board)))) }
     ensures counted { (base : List H) → IsCounted H.runs H.faults base (coordinator.old.hand ∷ []) coordinator.old.board → IsCounted H.runs H.faults base (coordinator.new.hand ∷ []) coordinator.new.board }
-    ensures tied { (base : H) → IsTied H.honest H.fails H.calls base coordinator.old.hand coordinator.old.board → IsTied H.honest H.fails H.calls base coordinator.new.hand coordinator.new.board }
+    ensures agrees { (base : H) → AgreesWithHand H.honest H.fails H.calls base coordinator.old.hand coordinator.old.board → AgreesWithHand H.honest H.fails H.calls base coordinator.new.hand coordinator.new.board }
     ensures stopper { stopper.new ≡ stopper.old }
     ensures quiet { coordinator.old.script ≢ [] → turns coordinator.old.board ≡ [] → turns coordinator.new.board ≡ [] → S.written sink.new ≡ S.written sink.old }
     ensures failed { IsErrOf result RunFault.Write → Rose (S.faults sink.old) (S.faults sink.new) }

@@ -9,7 +9,7 @@ ghost use Rattle.run_history.specs.declared.event.Outcome.{Outcome};
 ghost use Rattle.coordinator.specs.Claims.{IsClaimed, IsWorkOf};
 ghost use Rattle.coordinator.specs.Coordinator.{IsCounted, IsIdle, IsWorked};
 ghost use Rattle.coordinator.specs.Tasks.{HasTasksIn, IsOfBytes};
-ghost use Rattle.coordinator.specs.Tied.{HasRun, IsTied};
+ghost use Rattle.coordinator.specs.HandAgreement.{HasRun, AgreesWithHand};
 
 use job_board::{Board, SmallWork, Work};
 use outside::{Hand, HandFault};
@@ -87,7 +87,7 @@ pub fn run_step<R: Threads + Wait + Sync, H: Hand<SmallWork> + Drop>(
     ensures same { result ≡ Ok false → IsSame board.old board.new }
     ensures empty { result ≡ Ok false → (now board.old).queue ≡ [] }
     ensures counted { (base : List H) → IsCounted H.runs H.faults base (hand.old ∷ []) board.old → IsCounted H.runs H.faults base (hand.new ∷ []) board.new }
-    ensures tied { (base : H) → IsTied H.honest H.fails H.calls base hand.old board.old → IsTied H.honest H.fails H.calls base hand.new board.new }
+    ensures agrees { (base : H) → AgreesWithHand H.honest H.fails H.calls base hand.old board.old → AgreesWithHand H.honest H.fails H.calls base hand.new board.new }
 {
     match claim_step(board)? {
         Some(work) => {

@@ -10,9 +10,9 @@ ghost use Rattle.run_history.specs.Histories.{MayNote};
 ghost use Rattle.run_inputs.specs.Inputs.{HasFittingRows};
 ghost use Rattle.script_text.specs.Blocks.{block_text};
 ghost use Rattle.script_text.specs.declared.verb.Line.{Line};
-ghost use Rattle.coordinator.specs.Coordinator.{AreGiven, HasWritten, HasWrittenPart, IsCounted, IsFront, IsIdle, IsServedLine, IsSound, IsStill, awaited, inputs_in, load_of};
-ghost use Rattle.coordinator.specs.Taken.{IsTaken, IsTakenPart};
-ghost use Rattle.coordinator.specs.Tied.{IsTied};
+ghost use Rattle.coordinator.specs.Coordinator.{AreGiven, HasWritten, HasWrittenPart, IsCounted, IsFront, IsIdle, IsServedLine, IsSound, HasNoNextTurn, awaited, inputs_in, load_of};
+ghost use Rattle.coordinator.specs.ExecutedLines.{HasExecuted, HasExecutedPart};
+ghost use Rattle.coordinator.specs.HandAgreement.{AgreesWithHand};
 
 use crate::commands::{awaited, session_of, take_command};
 use crate::fault::RunFault;
@@ -50,8 +50,8 @@ fn take_line<H: Hand<SmallWork> + Drop, P: Stopper>(
     requires may { MayNote (now board.old) (awaited line.now.verb) }
     requires served { IsServedLine (map load_of loads.now) line.now }
     requires fit { All HasFittingRows (map load_of loads.now) }
-    ensures ok { IfOk result (λ block. IsTaken H.honest (map load_of loads.now) board.old line.now block board.new) }
-    ensures err { OnErr result (IsTakenPart board.old line.now board.new) }
+    ensures ok { IfOk result (λ block. HasExecuted H.honest (map load_of loads.now) board.old line.now block board.new) }
+    ensures err { OnErr result (HasExecutedPart board.old line.now board.new) }
     ensures stopper { stopper.new ≡ stopper.old }
 {
     match session_of(&line.verb) {
@@ -112,7 +112,7 @@ fn take_next<H: Hand<SmallWork> + Drop, P: Stopper, S: Sink>(
     ensures written { OnOk result ((before : Option (List ℕ)) → HasWritten H.honest coordinator.old.script coordinator.old.board before (S.written sink.old) → HasWritten H.honest coordinator.old.script coordinator.new.board before (S.written sink.new)) }
     ensures part { OnErr result ((before : Option (List ℕ)) → HasWritten H.honest coordinator.old.script coordinator.old.board before (S.written sink.old) → HasWrittenPart H.honest coordinator.old.script coordinator.new.board before (S.written sink.new)) }
     ensures counted { (base : List H) → IsCounted H.runs H.faults base (coordinator.old.hand ∷ []) coordinator.old.board → IsCounted H.runs H.faults base (coordinator.new.hand ∷ []) coordinator.new.board }
-    ensures tied { (base : H) → IsTied H.honest H.fails H.calls base coordinator.old.hand coordinator.old.board → IsTied H.honest H.fails H.calls base coordinator.new.hand coordinator.new.board }
+    ensures agrees { (base : H) → AgreesWithHand H.honest H.fails H.calls base coordinator.old.hand coordinator.old.board → AgreesWithHand H.honest H.fails H.calls base coordinator.new.hand coordinator.new.board }
     ensures stopper { stopper.new ≡ stopper.old }
     ensures quiet { turns coordinator.new.board ≡ [] → (turns coordinator.old.board ≡ []) × (S.written sink.new ≡ S.written sink.old) }
     ensures failed { IsErrOf result RunFault.Write → Rose (S.faults sink.old) (S.faults sink.new) }
@@ -160,11 +160,11 @@ pub fn advance<R: Threads + Wait + Sync, H: Hand<SmallWork> + Drop, P: Stopper, 
     ensures loads { coordinator.new.loads ≡ coordinator.old.loads }
     ensures front { IsFront (inputs_in coordinator.old.script (map load_of coordinator.old.loads.items)) coordinator.new.board }
     ensures sound { OnOk result (IsSound (inputs_in coordinator.old.script (map load_of coordinator.old.loads.items)) coordinator.new.board coordinator.new.taken) }
-    ensures still { result ≡ Ok false → IsStill coordinator.new.script coordinator.new.taken (now coordinator.new.board) }
+    ensures no_next_turn { result ≡ Ok false → HasNoNextTurn coordinator.new.script coordinator.new.taken (now coordinator.new.board) }
     ensures written { OnOk result ((before : Option (List ℕ)) → HasWritten H.honest coordinator.old.script coordinator.old.board before (S.written sink.old) → HasWritten H.honest coordinator.old.script coordinator.new.board before (S.written sink.new)) }
     ensures part { OnErr result ((before : Option (List ℕ)) → HasWritten H.honest coordinator.old.script coordinator.old.board before (S.written sink.old) → HasWrittenPart H.honest coordinator.old.script coordinator.new.board before (S.written sink.new)) }
     ensures counted { (base : List H) → IsCounted H.runs H.faults base (coordinator.old.hand ∷ []) coordinator.old.board → IsCounted H.runs H.faults base (coordinator.new.hand ∷ []) coordinator.new.board }
-    ensures tied { (base : H) → IsTied H.honest H.fails H.calls base coordinator.old.hand coordinator.old.board → IsTied H.honest H.fails H.calls base coordinator.new.hand coordinator.new.board }
+    ensures agrees { (base : H) → AgreesWithHand H.honest H.fails H.calls base coordinator.old.hand coordinator.old.board → AgreesWithHand H.honest H.fails H.calls base coordinator.new.hand coordinator.new.board }
     ensures stopper { stopper.new ≡ stopper.old }
     ensures quiet { turns coordinator.new.board ≡ [] → (turns coordinator.old.board ≡ []) × (S.written sink.new ≡ S.written sink.old) }
     ensures failed { IsErrOf result RunFault.Write → Rose (S.faults sink.old) (S.faults sink.new) }

@@ -10,8 +10,8 @@ use Rattle.run_history.specs.declared.event.Event.{Event}
 use Rattle.run_inputs.specs.declared.inputs.FixedInputs.{FixedInputs}
 use Rattle.run_transcript.specs.Runs.{turns_of}
 use Rattle.coordinator.specs.Served.{inputs_of, served}
-use Rattle.coordinator.specs.Ties.{AreCallsOf, IsEndBy, StandsAmong}
-use Rattle.coordinator.proofs.TiedFacts.{calls-none_over}
+use Rattle.coordinator.specs.StepOutcomes.{AreCallsOf, IsEndBy, StandsAmong}
+use Rattle.coordinator.proofs.HandAgreementFacts.{calls-none_over}
 use Rattle.cubes_top.specs.Ties.{HaveCalled}
 
 -- ---- one hand

@@ -2,7 +2,7 @@
 use Rattle.std.specs.Prelude.{List, Option}
 use Rattle.coordinator.specs.Served.{inputs_of, served}
 use Rattle.coordinator.specs.Stops.{stops_of}
-use Rattle.coordinator.specs.Ties.{AreCallsOf}
+use Rattle.coordinator.specs.StepOutcomes.{AreCallsOf}
 use Rattle.fixed_cube.specs.Cube.{fixed}
 use Rattle.outside.specs.Hands.{Call}
 use Rattle.outside.specs.Rises.{Gained}

@@ -5,7 +5,7 @@ ghost use Rattle.coordinator.specs.Coordinator.{AreGiven};
 ghost use Rattle.coordinator.specs.Runs.{IsRunOver, fault_ends, run_ends, status_of};
 ghost use Rattle.coordinator.specs.Served.{inputs_of};
 ghost use Rattle.coordinator.specs.Stops.{AsksAmong};
-ghost use Rattle.coordinator.specs.Ties.{IsEndBy, IsUndamaged, StandsAmong};
+ghost use Rattle.coordinator.specs.StepOutcomes.{IsEndBy, IsUndamaged, StandsAmong};
 ghost use Rattle.cubes_plain.specs.Outputs.{bad_words_line};
 ghost use Rattle.cubes_plain.specs.Steps.{IsStepRun, files_at, sink_at};
 ghost use Rattle.cubes_plain.specs.Words.{IsNoStep, IsStep};

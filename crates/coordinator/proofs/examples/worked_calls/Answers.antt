@@ -4,7 +4,7 @@ use Rattle.outside.specs.Hands.{call_of}
 use Rattle.run_history.specs.declared.event.Outcome.TheVariants.{Done, Killed}
 use Rattle.run_transcript.specs.Examples.{small}
 use Rattle.coordinator.specs.Examples.{four_calls, killed_run}
-use Rattle.coordinator.proofs.TieFacts.{calls-silent, calls-start, calls-step}
+use Rattle.coordinator.proofs.StepOutcomeFacts.{calls-silent, calls-start, calls-step}
 use Rattle.coordinator.proofs.examples.worked_calls.Goals as goal
 
 pub returns-clause-all : goal.returns-clause-all

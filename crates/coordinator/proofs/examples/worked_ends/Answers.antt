@@ -1,8 +1,8 @@
 use Rattle.std.proofs.Common.{refl, inl, inr, arith}
 use Rattle.std.proofs.lemmas.List.Elements.{All-from_recursion}
 use Rattle.coordinator.specs.Examples.{one_kill}
-use Rattle.coordinator.specs.Ties.{IsEndBy, IsUndamaged}
-use Rattle.coordinator.proofs.TiedFacts.{all-stand}
+use Rattle.coordinator.specs.StepOutcomes.{IsEndBy, IsUndamaged}
+use Rattle.coordinator.proofs.HandAgreementFacts.{all-stand}
 use Rattle.run_transcript.specs.Examples.{history}
 use Rattle.coordinator.proofs.examples.worked_ends.Goals as goal
 

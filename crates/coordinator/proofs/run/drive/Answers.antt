@@ -39,7 +39,7 @@ loop-preserved g c =
           (c.in-Ok-true.ensures.written before),
       λ base h. c.advance.ensures.counted base (inv.7 base h),
       omega (arith, c.advance.ensures.faults, inv.8),
-      λ base h. c.advance.ensures.tied base (inv.9 base h),
+      λ base h. c.advance.ensures.agrees base (inv.9 base h),
       c.advance.ensures.stopper ∙ inv.10,
       λ none. (let now = c.advance.ensures.quiet none in let before = inv.11 now.0 in (before.0, now.1 ∙ before.1)),
     )
@@ -91,8 +91,8 @@ returns-in-Ok-false-clause-quiet g c = λ some first none.
     let done = subst (λ (lines : List Line). is_done lines new.taken (now new.board) ≡ true) (c.advance.ensures.script ∙ inv.2) c.end.ensures.done in
     absurd (done-some (inputs_in d.script (map load_of d.loads.items)) new.board new.taken sound done some none)
 
-pub returns-in-Err-clause-tied : goal.returns-in-Err-clause-tied
-returns-in-Err-clause-tied g c = λ base h. c.advance.ensures.tied base (c.loop.invariant.9 base h)
+pub returns-in-Err-clause-agrees : goal.returns-in-Err-clause-agrees
+returns-in-Err-clause-agrees g c = λ base h. c.advance.ensures.agrees base (c.loop.invariant.9 base h)
 
-pub returns-in-Ok-false-clause-tied : goal.returns-in-Ok-false-clause-tied
-returns-in-Ok-false-clause-tied g c = λ base h. c.advance.ensures.tied base (c.loop.invariant.9 base h)
+pub returns-in-Ok-false-clause-agrees : goal.returns-in-Ok-false-clause-agrees
+returns-in-Ok-false-clause-agrees g c = λ base h. c.advance.ensures.agrees base (c.loop.invariant.9 base h)

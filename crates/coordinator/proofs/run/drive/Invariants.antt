@@ -1,7 +1,7 @@
 use Rattle.std.proofs.Common.{◌≡◌, ◌≤◌, ℕ, List, [], ◌∷◌, Option, map}
 use Rattle.coordinator.specs.Coordinator.{AreGiven, HasWritten, IsCounted, IsSound, inputs_in, load_of}
 use Rattle.job_board.specs.BoardModel.{turns}
-use Rattle.coordinator.specs.Tied.{IsTied}
+use Rattle.coordinator.specs.HandAgreement.{AgreesWithHand}
 use Rattle.coordinator.proofs.run.drive.Given as goal
 
 abbrev pub invariant-loop : goal.invariant-loop
@@ -14,6 +14,6 @@ invariant-loop g l =
     × ((before : Option (List ℕ)) → HasWritten g.H.Honest.honest l.initial.coordinator.script l.initial.coordinator.board before (g.S.Sink.written l.initial.sink) → HasWritten g.H.Honest.honest l.initial.coordinator.script l.coordinator.board before (g.S.Sink.written l.sink))
     × ((base : List g.row.H.Denot) → IsCounted g.H.Hand.runs g.H.Hand.faults base (l.initial.coordinator.hand ∷ []) l.initial.coordinator.board → IsCounted g.H.Hand.runs g.H.Hand.faults base (l.coordinator.hand ∷ []) l.coordinator.board)
     × (g.S.Sink.faults l.initial.sink ≤ g.S.Sink.faults l.sink)
-    × ((base : g.row.H.Denot) → IsTied g.H.Honest.honest g.H.Hand.fails g.H.Hand.calls base l.initial.coordinator.hand l.initial.coordinator.board → IsTied g.H.Honest.honest g.H.Hand.fails g.H.Hand.calls base l.coordinator.hand l.coordinator.board)
+    × ((base : g.row.H.Denot) → AgreesWithHand g.H.Honest.honest g.H.Hand.fails g.H.Hand.calls base l.initial.coordinator.hand l.initial.coordinator.board → AgreesWithHand g.H.Honest.honest g.H.Hand.fails g.H.Hand.calls base l.coordinator.hand l.coordinator.board)
     × (l.stopper ≡ l.initial.stopper)
     × (turns l.coordinator.board ≡ [] → (turns l.initial.coordinator.board ≡ []) × (g.S.Sink.written l.sink ≡ g.S.Sink.written l.initial.sink))

@@ -8,18 +8,18 @@ use Rattle.run_transcript.specs.Entries.{tally_of}
 use Rattle.coordinator.specs.Coordinator.{inputs_in, load_of}
 use Rattle.coordinator.proofs.Endings.{end-line}
 use Rattle.coordinator.proofs.Results.{on_err, on_ok}
-use Rattle.coordinator.proofs.Still.{done-still}
+use Rattle.coordinator.proofs.NextTurns.{done-without_turn}
 use Rattle.coordinator.proofs.run.end.Goals as goal
 
 pub returns-in_err-put_end-clause-done : goal.returns-in_err-put_end-clause-done
 returns-in_err-put_end-clause-done g c =
     let d = c.args.coordinator.now in
-    done-still (inputs_in d.script (map load_of d.loads.items)) d.board d.taken c.requires.sound c.requires.still c.jobs.ensures.rest
+    done-without_turn (inputs_in d.script (map load_of d.loads.items)) d.board d.taken c.requires.sound c.requires.no_next_turn c.jobs.ensures.rest
 
 pub returns-clause-done : goal.returns-clause-done
 returns-clause-done g c =
     let d = c.args.coordinator.now in
-    done-still (inputs_in d.script (map load_of d.loads.items)) d.board d.taken c.requires.sound c.requires.still c.jobs.ensures.rest
+    done-without_turn (inputs_in d.script (map load_of d.loads.items)) d.board d.taken c.requires.sound c.requires.no_next_turn c.jobs.ensures.rest
 
 pub returns-clause-written : goal.returns-clause-written
 returns-clause-written g c =

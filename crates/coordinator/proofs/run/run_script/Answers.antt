@@ -9,10 +9,10 @@ use Rattle.std.proofs.Common.{All, refl, ap, ◌∙◌}
 use Rattle.job_board.specs.BoardModel.{turns}
 use Rattle.coordinator.specs.Served.{served}
 use Rattle.coordinator.specs.Stops.{stops_of}
-use Rattle.coordinator.specs.Ties.{IsEndBy, IsUndamaged, StandsAmong}
+use Rattle.coordinator.specs.StepOutcomes.{IsEndBy, IsUndamaged, StandsAmong}
 use Rattle.coordinator.proofs.Asked.{asks-none, asks-over, no-turns, requests-none}
-use Rattle.coordinator.proofs.TieFacts.{calls-none, with_calls}
-use Rattle.coordinator.proofs.TiedFacts.{all-stand, calls-none_over, calls-over, none-all, tied-start}
+use Rattle.coordinator.proofs.StepOutcomeFacts.{calls-none, with_calls}
+use Rattle.coordinator.proofs.HandAgreementFacts.{all-stand, calls-none_over, calls-over, none-all, agrees-start}
 use Rattle.coordinator.proofs.run.run_script.Goals as goal
 
 pub drive-ended-requires-clause-sound : goal.drive-ended-requires-clause-sound
@@ -79,37 +79,37 @@ returns-in-Err-clause-requests g c = requests-none c.args.stopper.now c.args.sto
 pub returns-in-Ok-clause-fails : goal.returns-in-Ok-clause-fails
 returns-in-Ok-clause-fails g c = λ told e.
     let d = c.in-Ok.coordinator in
-    let tied = c.drive-ended.ensures.tied d.hand (tied-start g.H.Honest.honest g.H.Hand.fails g.H.Hand.calls d.hand d.board c.in-Ok.ensures.board) in
-    subst (All (IsEndBy told)) (sym c.into_history.ensures.history) (tied.follows told (ap g.H.Hand.fails c.in-Ok.ensures.hand ∙ e))
+    let agrees = c.drive-ended.ensures.agrees d.hand (agrees-start g.H.Honest.honest g.H.Hand.fails g.H.Hand.calls d.hand d.board c.in-Ok.ensures.board) in
+    subst (All (IsEndBy told)) (sym c.into_history.ensures.history) (agrees.follows told (ap g.H.Hand.fails c.in-Ok.ensures.hand ∙ e))
 
 pub returns-in-Ok-clause-fails_stand : goal.returns-in-Ok-clause-fails_stand
 returns-in-Ok-clause-fails_stand g c = λ told e.
     let d = c.in-Ok.coordinator in
-    let tied = c.drive-ended.ensures.tied d.hand (tied-start g.H.Honest.honest g.H.Hand.fails g.H.Hand.calls d.hand d.board c.in-Ok.ensures.board) in
-    all-stand told c.into_history.result.items (subst (All (IsEndBy told)) (sym c.into_history.ensures.history) (tied.follows told (ap g.H.Hand.fails c.in-Ok.ensures.hand ∙ e)))
+    let agrees = c.drive-ended.ensures.agrees d.hand (agrees-start g.H.Honest.honest g.H.Hand.fails g.H.Hand.calls d.hand d.board c.in-Ok.ensures.board) in
+    all-stand told c.into_history.result.items (subst (All (IsEndBy told)) (sym c.into_history.ensures.history) (agrees.follows told (ap g.H.Hand.fails c.in-Ok.ensures.hand ∙ e)))
 
 pub returns-in-Ok-clause-fails_same : goal.returns-in-Ok-clause-fails_same
 returns-in-Ok-clause-fails_same g c =
     let d = c.in-Ok.coordinator in
-    let tied = c.drive-ended.ensures.tied d.hand (tied-start g.H.Honest.honest g.H.Hand.fails g.H.Hand.calls d.hand d.board c.in-Ok.ensures.board) in
-    tied.fails_same ∙ ap g.H.Hand.fails c.in-Ok.ensures.hand
+    let agrees = c.drive-ended.ensures.agrees d.hand (agrees-start g.H.Honest.honest g.H.Hand.fails g.H.Hand.calls d.hand d.board c.in-Ok.ensures.board) in
+    agrees.fails_same ∙ ap g.H.Hand.fails c.in-Ok.ensures.hand
 
 pub returns-in-Ok-clause-calls : goal.returns-in-Ok-clause-calls
 returns-in-Ok-clause-calls g c =
     let d = c.in-Ok.coordinator in
-    let tied = c.drive-ended.ensures.tied d.hand (tied-start g.H.Honest.honest g.H.Hand.fails g.H.Hand.calls d.hand d.board c.in-Ok.ensures.board) in
+    let agrees = c.drive-ended.ensures.agrees d.hand (agrees-start g.H.Honest.honest g.H.Hand.fails g.H.Hand.calls d.hand d.board c.in-Ok.ensures.board) in
     let inputs = inputs-are c.args.inputs d.script (map load_of d.loads.items) c.in-Ok.ensures.script c.in-Ok.ensures.loads in (
-      tied.new_calls,
-      tied.told_calls ∙ ap (λ hand. with_calls (g.H.Hand.calls hand) tied.new_calls) c.in-Ok.ensures.hand,
+      agrees.new_calls,
+      agrees.told_calls ∙ ap (λ hand. with_calls (g.H.Hand.calls hand) agrees.new_calls) c.in-Ok.ensures.hand,
       calls-over g.H.Honest.honest (inputs_in d.script (map load_of d.loads.items)) (inputs_of 1 c.args.inputs) inputs c.drive-ended.new.coordinator.board c.into_history.result.items
-          tied.new_calls c.drive-ended.ensures.front c.into_history.ensures.history tied.are_calls,
+          agrees.new_calls c.drive-ended.ensures.front c.into_history.ensures.history agrees.are_calls,
     )
 
 pub returns-in-Ok-clause-undamaged : goal.returns-in-Ok-clause-undamaged
 returns-in-Ok-clause-undamaged g c = λ honest.
     let d = c.in-Ok.coordinator in
-    let tied = c.drive-ended.ensures.tied d.hand (tied-start g.H.Honest.honest g.H.Hand.fails g.H.Hand.calls d.hand d.board c.in-Ok.ensures.board) in
-    subst (All IsUndamaged) (sym c.into_history.ensures.history) (tied.sound honest)
+    let agrees = c.drive-ended.ensures.agrees d.hand (agrees-start g.H.Honest.honest g.H.Hand.fails g.H.Hand.calls d.hand d.board c.in-Ok.ensures.board) in
+    subst (All IsUndamaged) (sym c.into_history.ensures.history) (agrees.sound honest)
 
 pub returns-in-Ok-clause-asks : goal.returns-in-Ok-clause-asks
 returns-in-Ok-clause-asks g c =

@@ -5,7 +5,7 @@ use Rattle.run_history.specs.Commands.Turn.{StepEnds}
 use Rattle.run_history.specs.World.{job_of}
 use Rattle.coordinator.proofs.Boards.{added-same, grown-added}
 use Rattle.coordinator.proofs.Ends.{counted-grown, fault_rises, faults_rose, run_count, runs_rose}
-use Rattle.coordinator.proofs.TiedFacts.{called-by, follows-fails, recorded-answer}
+use Rattle.coordinator.proofs.HandAgreementFacts.{called-by, follows-fails, recorded-answer}
 use Rattle.coordinator.proofs.Worked.{tasks-ended, tasks-same}
 use Rattle.std.proofs.Common.{◌≡◌, ℕ, List, sym, subst, inl, inr}
 use Rattle.fixed_cube.specs.Tasks.{IsTask}

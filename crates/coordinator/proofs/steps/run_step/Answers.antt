@@ -4,8 +4,8 @@ use Rattle.coordinator.proofs.Boards.{grown-added}
 use Rattle.coordinator.proofs.Ends.{counted-silent}
 use Rattle.coordinator.proofs.Worked.{idle-ended, worked-claim, worked-step, worked-then}
 use Rattle.std.proofs.Common.{sym, subst}
-use Rattle.coordinator.specs.Tied.{IsTied}
-use Rattle.coordinator.proofs.TiedFacts.{tied-claim, tied-same, tied-step}
+use Rattle.coordinator.specs.HandAgreement.{AgreesWithHand}
+use Rattle.coordinator.proofs.HandAgreementFacts.{agrees-claim, agrees-same, agrees-step}
 use Rattle.coordinator.proofs.Worked.{tasks-claimed, tasks-same}
 use Rattle.coordinator.proofs.steps.run_step.Goals as goal
 
@@ -51,25 +51,25 @@ run_claimed-requires-clause-tasks g c = λ κs h.
 pub returns-in-None-clause-tasks : goal.returns-in-None-clause-tasks
 returns-in-None-clause-tasks g c = tasks-same c.args.board.now c.claim_step.new.board (c.in_ok-work.ensures.none c.in-None.is) c.requires.tasks
 
-pub returns-in_err-work-clause-tied : goal.returns-in_err-work-clause-tied
-returns-in_err-work-clause-tied g c = λ base t.
-    tied-same g.H.Honest.honest g.H.Hand.fails g.H.Hand.calls base c.args.hand.now c.args.board.now c.claim_step.new.board c.in_err-work.ensures.err t
+pub returns-in_err-work-clause-agrees : goal.returns-in_err-work-clause-agrees
+returns-in_err-work-clause-agrees g c = λ base t.
+    agrees-same g.H.Honest.honest g.H.Hand.fails g.H.Hand.calls base c.args.hand.now c.args.board.now c.claim_step.new.board c.in_err-work.ensures.err t
 
-pub returns-in-None-clause-tied : goal.returns-in-None-clause-tied
-returns-in-None-clause-tied g c = λ base t.
-    tied-same g.H.Honest.honest g.H.Hand.fails g.H.Hand.calls base c.args.hand.now c.args.board.now c.claim_step.new.board (c.in_ok-work.ensures.none c.in-None.is) t
+pub returns-in-None-clause-agrees : goal.returns-in-None-clause-agrees
+returns-in-None-clause-agrees g c = λ base t.
+    agrees-same g.H.Honest.honest g.H.Hand.fails g.H.Hand.calls base c.args.hand.now c.args.board.now c.claim_step.new.board (c.in_ok-work.ensures.none c.in-None.is) t
 
-pub returns-in_err-run_claimed-in-Some-clause-tied : goal.returns-in_err-run_claimed-in-Some-clause-tied
-returns-in_err-run_claimed-in-Some-clause-tied g c = λ base t.
+pub returns-in_err-run_claimed-in-Some-clause-agrees : goal.returns-in_err-run_claimed-in-Some-clause-agrees
+returns-in_err-run_claimed-in-Some-clause-agrees g c = λ base t.
     let work = c.in-Some.work in
     let claimed = rw c.in-Some.is at c.in_ok-work.ensures.some in
-    let mid = tied-claim g.H.Honest.honest g.H.Hand.fails g.H.Hand.calls base c.args.hand.now c.args.board.now c.claim_step.new.board work.job work.attempt claimed.added t in
-    let new = tied-same g.H.Honest.honest g.H.Hand.fails g.H.Hand.calls base c.args.hand.now c.claim_step.new.board c.run_claimed.new.board c.in_err-run_claimed-in-Some.ensures.err mid in
-    subst (λ hand. IsTied g.H.Honest.honest g.H.Hand.fails g.H.Hand.calls base hand c.run_claimed.new.board) (sym c.in_err-run_claimed-in-Some.ensures.same) new
+    let mid = agrees-claim g.H.Honest.honest g.H.Hand.fails g.H.Hand.calls base c.args.hand.now c.args.board.now c.claim_step.new.board work.job work.attempt claimed.added t in
+    let new = agrees-same g.H.Honest.honest g.H.Hand.fails g.H.Hand.calls base c.args.hand.now c.claim_step.new.board c.run_claimed.new.board c.in_err-run_claimed-in-Some.ensures.err mid in
+    subst (λ hand. AgreesWithHand g.H.Honest.honest g.H.Hand.fails g.H.Hand.calls base hand c.run_claimed.new.board) (sym c.in_err-run_claimed-in-Some.ensures.same) new
 
-pub returns-in_ok-run_claimed-in-Some-clause-tied : goal.returns-in_ok-run_claimed-in-Some-clause-tied
-returns-in_ok-run_claimed-in-Some-clause-tied g c = λ base t.
+pub returns-in_ok-run_claimed-in-Some-clause-agrees : goal.returns-in_ok-run_claimed-in-Some-clause-agrees
+returns-in_ok-run_claimed-in-Some-clause-agrees g c = λ base t.
     let claimed = rw c.in-Some.is at c.in_ok-work.ensures.some in
     let ended = c.in_ok-run_claimed-in-Some.ensures.ended in
-    tied-step g.H.Honest.honest g.H.Hand.fails g.H.Hand.calls base c.args.hand.now c.run_claimed.new.hand c.args.board.now c.claim_step.new.board c.run_claimed.new.board c.in-Some.work ended.0
+    agrees-step g.H.Honest.honest g.H.Hand.fails g.H.Hand.calls base c.args.hand.now c.run_claimed.new.hand c.args.board.now c.claim_step.new.board c.run_claimed.new.board c.in-Some.work ended.0
     claimed ended.1 ended.2 t

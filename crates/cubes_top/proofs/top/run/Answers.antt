@@ -2,9 +2,9 @@ use Rattle.std.proofs.Common.{◌≡◌, ◌⊎◌, ℕ, List, Ok, refl, sym, �
 use Rattle.std.specs.String.{string_bytes}
 use Rattle.coordinator.specs.Runs.{fault_ends, run_ends}
 use Rattle.coordinator.specs.Served.{inputs_of}
-use Rattle.coordinator.specs.Ties.{IsEndBy, IsUndamaged, StandsAmong}
+use Rattle.coordinator.specs.StepOutcomes.{IsEndBy, IsUndamaged, StandsAmong}
 use Rattle.coordinator.proofs.Asked.{asks-none, requests-none}
-use Rattle.coordinator.proofs.TiedFacts.{none-all}
+use Rattle.coordinator.proofs.HandAgreementFacts.{none-all}
 use Rattle.outside.specs.Rises.{entries_of}
 use Rattle.cubes_top.specs.Ties.{stops_over}
 use Rattle.cubes_top.proofs.HandFacts.{called-none, same-none}

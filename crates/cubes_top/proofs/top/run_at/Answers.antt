@@ -2,9 +2,9 @@ use Rattle.std.proofs.Common.{[], ◌∷◌, ℕ, Ok, Err, length, refl, sym, ap
 use Rattle.coordinator.specs.Runs.{fault_ends, run_ends}
 use Rattle.coordinator.specs.Served.{inputs_of}
 use Rattle.coordinator.specs.Stops.{AsksAmong}
-use Rattle.coordinator.specs.Ties.{IsEndBy, IsUndamaged, StandsAmong}
+use Rattle.coordinator.specs.StepOutcomes.{IsEndBy, IsUndamaged, StandsAmong}
 use Rattle.coordinator.proofs.Asked.{asks-none, requests-none}
-use Rattle.coordinator.proofs.TiedFacts.{none-all}
+use Rattle.coordinator.proofs.HandAgreementFacts.{none-all}
 use Rattle.outside.specs.Rises.{Risen, entries_of}
 use Rattle.run_inputs.specs.declared.inputs.FixedInputs.{FixedInputs}
 use Rattle.run_refusal.specs.Lines.{Refuses}

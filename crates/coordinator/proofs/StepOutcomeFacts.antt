@@ -18,8 +18,8 @@ use Rattle.run_history.specs.declared.event.Event.TheVariants as event
 use Rattle.run_history.specs.declared.event.Outcome.{Outcome}
 use Rattle.run_history.specs.declared.event.Outcome.TheVariants as outcome
 use Rattle.coordinator.specs.Runs.{is_fault, is_no_memory}
-use Rattle.coordinator.specs.Ties.{AreCallsOf, EndsBy, IsEndBy, IsFailOf, IsTaskOf, StandsAmong, calls_of, is_call_of, is_end_of}
-use Rattle.coordinator.specs.Tied.{EndsNoStep}
+use Rattle.coordinator.specs.StepOutcomes.{AreCallsOf, EndsBy, IsEndBy, IsFailOf, IsTaskOf, StandsAmong, calls_of, is_call_of, is_end_of}
+use Rattle.coordinator.specs.HandAgreement.{EndsNoStep}
 
 -- ---- calls
 

@@ -27,12 +27,12 @@ use Rattle.coordinator.specs.Claims.{IsClaimed}
 use Rattle.coordinator.specs.Coordinator.{IsFront, IsGrown, asked_turns}
 use Rattle.coordinator.specs.Runs.{is_fault}
 use Rattle.coordinator.specs.Served.{rows_at, served}
-use Rattle.coordinator.specs.Taken.{IsTaken, IsTakenPart}
-use Rattle.coordinator.specs.Tied.{EndsNoStep, HasRun, IsTied}
-use Rattle.coordinator.specs.Ties.{AreCallsOf, EndsBy, IsEndBy, IsUndamaged, StandsAmong, is_damage}
+use Rattle.coordinator.specs.ExecutedLines.{HasExecuted, HasExecutedPart}
+use Rattle.coordinator.specs.HandAgreement.{EndsNoStep, HasRun, AgreesWithHand}
+use Rattle.coordinator.specs.StepOutcomes.{AreCallsOf, EndsBy, IsEndBy, IsUndamaged, StandsAmong, is_damage}
 use Rattle.coordinator.proofs.Boards.{grown-added, grown-same}
 use Rattle.coordinator.proofs.Start.{empty_board}
-use Rattle.coordinator.proofs.TieFacts.{calls-missed, calls-more, calls-none, calls-silent, calls-start, calls-step, stands-among, with_calls}
+use Rattle.coordinator.proofs.StepOutcomeFacts.{calls-missed, calls-more, calls-none, calls-silent, calls-start, calls-step, stands-among, with_calls}
 
 -- ---- what is recorded of an answer
 
@@ -125,9 +125,9 @@ all_grown P old new later e h k =
 
 module _ {H : Type 0} (honest : Type 0) (fails : H → Option (List Fail)) (calls : H → Option (List Call)) (base : H) where
   -- turns that end no step
-  pub tied-silent : (hand : H) (old new : BoardModel) (later : List (Turn Ask)) → IsGrown old later new → AllByRecursion EndsNoStep later → IsTied honest fails calls base hand old
-      → IsTied honest fails calls base hand new
-  tied-silent hand old new later g silent t = record {
+  pub agrees-silent : (hand : H) (old new : BoardModel) (later : List (Turn Ask)) → IsGrown old later new → AllByRecursion EndsNoStep later → AgreesWithHand honest fails calls base hand old
+      → AgreesWithHand honest fails calls base hand new
+  agrees-silent hand old new later g silent t = record {
     fails_same = t.fails_same;
     follows = λ told e. all_grown (IsEndBy told) (turns old) (turns new) later g.turns (t.follows told e) (silent_ends told later silent);
     sound = λ trust. all_grown IsUndamaged (turns old) (turns new) later g.turns (t.sound trust) (silent_sound later silent);
@@ -141,7 +141,7 @@ module _ {H : Type 0} (honest : Type 0) (fails : H → Option (List Fail)) (call
 
   -- a step from its claim to its end
   module _ (hand hand' : H) (old mid new : BoardModel) (work : Work) (o : Outcome) (claimed : IsClaimed honest old work mid) (ended : IsAdded mid (StepEnds work.job work.attempt o) new)
-      (ran : HasRun honest fails calls work hand hand' o) (t : IsTied honest fails calls base hand old) where
+      (ran : HasRun honest fails calls work hand hand' o) (t : AgreesWithHand honest fails calls base hand old) where
     abbrev call : Call
     call = call_of work.job work.attempt work.task.items
 
@@ -161,8 +161,8 @@ module _ {H : Type 0} (honest : Type 0) (fails : H → Option (List Fail)) (call
         subst (λ (n : ℕ). AreCallsOf fixed honest n (turns new) cs) (sym workers) (subst (λ (ts : List (Turn Ask)). AreCallsOf fixed honest old.workers ts cs) (sym grown) c)
 
     -- .. with the calls that are new then
-    tied_with : (cs : List Call) → calls hand' ≡ with_calls (calls base) cs → AreCallsOf fixed honest old.workers (turns old ++ step_turns) cs → IsTied honest fails calls base hand' new
-    tied_with cs told c = record {
+    agrees_with : (cs : List Call) → calls hand' ≡ with_calls (calls base) cs → AreCallsOf fixed honest old.workers (turns old ++ step_turns) cs → AgreesWithHand honest fails calls base hand' new
+    agrees_with cs told c = record {
       fails_same = ran.fails_same ∙ t.fails_same;
       follows = λ list e. all_grown (IsEndBy list) (turns old) (turns new) step_turns grown (t.follows list e) (tt, (ran.follows list (t.fails_same ∙ e), tt));
       sound = λ trust. all_grown IsUndamaged (turns old) (turns new) step_turns grown (t.sound trust) (refl, (no_damage o (ran.sound trust), tt));
@@ -171,30 +171,30 @@ module _ {H : Type 0} (honest : Type 0) (fails : H → Option (List Fail)) (call
       are_calls = moved cs c;
     }
 
-    pub tied-step : IsTied honest fails calls base hand' new
-    tied-step = elim ran.called [
+    pub agrees-step : AgreesWithHand honest fails calls base hand' new
+    agrees-step = elim ran.called [
       | inl e ↦
-          tied_with (t.new_calls ++ call ∷ []) (e ∙ (ap (λ (told : Option (List Call)). with_call told call) t.told_calls ∙ calls-more (calls base) t.new_calls call))
+          agrees_with (t.new_calls ++ call ∷ []) (e ∙ (ap (λ (told : Option (List Call)). with_call told call) t.told_calls ∙ calls-more (calls base) t.new_calls call))
           (calls-step fixed honest old.workers (turns old) t.new_calls t.are_calls call o claimed.job (λ trust. (claimed.there, claimed.task trust)))
-      | inr e ↦ tied_with t.new_calls (e.1 ∙ t.told_calls) (calls-missed fixed honest old.workers (turns old) t.new_calls t.are_calls call o e.0)
+      | inr e ↦ agrees_with t.new_calls (e.1 ∙ t.told_calls) (calls-missed fixed honest old.workers (turns old) t.new_calls t.are_calls call o e.0)
     ]
 
   -- the same turns
-  pub tied-same : (hand : H) (old new : BoardModel) → IsSame old new → IsTied honest fails calls base hand old → IsTied honest fails calls base hand new
-  tied-same hand old new same t = tied-silent hand old new [] (grown-same old new same) tt t
+  pub agrees-same : (hand : H) (old new : BoardModel) → IsSame old new → AgreesWithHand honest fails calls base hand old → AgreesWithHand honest fails calls base hand new
+  agrees-same hand old new same t = agrees-silent hand old new [] (grown-same old new same) tt t
 
   -- a claim alone
-  pub tied-claim : (hand : H) (old new : BoardModel) (job attempt : ℕ) → IsAdded old (Claims job attempt) new → IsTied honest fails calls base hand old → IsTied honest fails calls base hand new
-  tied-claim hand old new job attempt added t = tied-silent hand old new (Claims job attempt ∷ []) (grown-added old (Claims job attempt) new added) (tt, tt) t
+  pub agrees-claim : (hand : H) (old new : BoardModel) (job attempt : ℕ) → IsAdded old (Claims job attempt) new → AgreesWithHand honest fails calls base hand old → AgreesWithHand honest fails calls base hand new
+  agrees-claim hand old new job attempt added t = agrees-silent hand old new (Claims job attempt ∷ []) (grown-added old (Claims job attempt) new added) (tt, tt) t
 
   -- a line that was taken, or some turns of it
-  pub tied-taken : (hand : H) (tables : List LoadedTable) (old : BoardModel) (line : Line) (said : Block) (new : BoardModel) → IsTaken honest tables old line said new
-      → IsTied honest fails calls base hand old → IsTied honest fails calls base hand new
-  tied-taken hand tables old line said new (inl c) t =
-      tied-silent hand old new (Takes line.number (command_of served (rows_at tables line.number) line.verb) ∷ [])
+  pub agrees-taken : (hand : H) (tables : List LoadedTable) (old : BoardModel) (line : Line) (said : Block) (new : BoardModel) → HasExecuted honest tables old line said new
+      → AgreesWithHand honest fails calls base hand old → AgreesWithHand honest fails calls base hand new
+  agrees-taken hand tables old line said new (inl c) t =
+      agrees-silent hand old new (Takes line.number (command_of served (rows_at tables line.number) line.verb) ∷ [])
       (grown-added old (Takes line.number (command_of served (rows_at tables line.number) line.verb)) new c.added) (tt, tt) t
-  tied-taken hand tables old line said new (inr q) t =
-      tied-silent hand old new (asked_turns line.number q.session ++ QueryEnds line.number q.out ∷ []) q.grown (tt, (tt, (tt, tt))) t
+  agrees-taken hand tables old line said new (inr q) t =
+      agrees-silent hand old new (asked_turns line.number q.session ++ QueryEnds line.number q.out ∷ []) q.grown (tt, (tt, (tt, tt))) t
 
   asked_silent : (line session count : ℕ) → AllByRecursion EndsNoStep (take count (asked_turns line session))
   asked_silent line session zero = tt
@@ -202,13 +202,13 @@ module _ {H : Type 0} (honest : Type 0) (fails : H → Option (List Fail)) (call
   asked_silent line session (suc (suc zero)) = (tt, (tt, tt))
   asked_silent line session (suc (suc (suc n))) = (tt, (tt, tt))
 
-  pub tied-part : (hand : H) (old : BoardModel) (line : Line) (new : BoardModel) → IsTakenPart old line new → IsTied honest fails calls base hand old → IsTied honest fails calls base hand new
-  tied-part hand old line new (inl g) t = tied-silent hand old new [] g tt t
-  tied-part hand old line new (inr q) t = tied-silent hand old new (take q.count (asked_turns line.number q.session)) q.grown (asked_silent line.number q.session q.count) t
+  pub agrees-part : (hand : H) (old : BoardModel) (line : Line) (new : BoardModel) → HasExecutedPart old line new → AgreesWithHand honest fails calls base hand old → AgreesWithHand honest fails calls base hand new
+  agrees-part hand old line new (inl g) t = agrees-silent hand old new [] g tt t
+  agrees-part hand old line new (inr q) t = agrees-silent hand old new (take q.count (asked_turns line.number q.session)) q.grown (asked_silent line.number q.session q.count) t
 
   -- before the first turn
-  tied_empty : IsTied honest fails calls base base (empty_board 1)
-  tied_empty = record {
+  agrees_empty : AgreesWithHand honest fails calls base base (empty_board 1)
+  agrees_empty = record {
     fails_same = refl;
     follows = λ told e. All-nil (IsEndBy told);
     sound = λ trust. All-nil IsUndamaged;
@@ -217,8 +217,8 @@ module _ {H : Type 0} (honest : Type 0) (fails : H → Option (List Fail)) (call
     are_calls = calls-start fixed honest 1;
   }
 
-  pub tied-start : (board : BoardModel) → board ≡ empty_board 1 → IsTied honest fails calls base base board
-  tied-start board b = subst (IsTied honest fails calls base base) (sym b) tied_empty
+  pub agrees-start : (board : BoardModel) → board ≡ empty_board 1 → AgreesWithHand honest fails calls base base board
+  agrees-start board b = subst (AgreesWithHand honest fails calls base base) (sym b) agrees_empty
 
 -- ---- the whole run
 

@@ -8,7 +8,7 @@ use Rattle.run_history.specs.Commands.{Turn, event_of}
 use Rattle.run_history.specs.Commands.Turn.{Takes, Claims, StepEnds, QueryTakes, QueryEnds}
 use Rattle.run_history.specs.declared.event.Outcome.{Outcome}
 use Rattle.run_history.specs.declared.event.Outcome.TheVariants as outcome
-use Rattle.coordinator.specs.Ties.{AreCallsOf, EndsBy, IsEndBy, IsUndamaged}
+use Rattle.coordinator.specs.StepOutcomes.{AreCallsOf, EndsBy, IsEndBy, IsUndamaged}
 
 -- a turn that ends no step
 abbrev pub EndsNoStep : {Query : Type 0} → Turn Query → Type 0
@@ -25,9 +25,9 @@ pub record HasRun {H : Type 0} (honest : Type 0) (fails : H → Option (List Fai
   pub sound : honest → o ≢ outcome.Damaged
   pub called : (calls new ≡ with_call (calls old) (call_of work.job work.attempt work.task.items)) ⊎ ((o ≡ outcome.Memory) × (calls new ≡ calls old))
 
--- the turns of a board are tied to the hand: the ends of steps follow the faults that it tells, its calls are those of the ends, and where
+-- the turns of a board agree with what the hand did: the ends of steps follow the faults that it tells, its calls are those of the ends, and where
 -- it is honest no product is Damaged
-pub record IsTied {H : Type 0} (honest : Type 0) (fails : H → Option (List Fail)) (calls : H → Option (List Call)) (base hand : H) (board : BoardModel) : Type 0 where
+pub record AgreesWithHand {H : Type 0} (honest : Type 0) (fails : H → Option (List Fail)) (calls : H → Option (List Call)) (base hand : H) (board : BoardModel) : Type 0 where
   pub fails_same : fails hand ≡ fails base
   pub follows : (told : List Fail) → fails base ≡ Some told → All (IsEndBy told) (map event_of (turns board))
   pub sound : honest → All IsUndamaged (map event_of (turns board))

@@ -9,7 +9,7 @@ use Rattle.run_transcript.specs.Served.{Inputs}
 use Rattle.script_text.specs.declared.verb.Line.{Line}
 use Rattle.script_text.specs.declared.verb.Verb.{Verb}
 use Rattle.script_text.specs.declared.verb.Verb.TheVariants as verb
-use Rattle.coordinator.specs.Coordinator.{IsIdle, IsSound, IsStill, awaited, is_done}
+use Rattle.coordinator.specs.Coordinator.{IsIdle, IsSound, HasNoNextTurn, awaited, is_done}
 
 first_rests : (b c : Bool) → b || c ≡ false → (b ≡ false) × (c ≡ false)
 first_rests true c h = absurd cc
@@ -57,9 +57,9 @@ settled w queue steps waiting asked =
     ∙ (ap (λ (l : List (ℕ × ℕ)). is_empty l && is_empty w.waiting && is_empty w.asked) steps
     ∙ (ap (λ (l : List (Waiting Query)). is_empty l && is_empty w.asked) waiting ∙ ap (λ (l : List (Asked Query)). is_empty l) asked))
 
-pub done-still : (inputs : Inputs) (board : BoardModel) (taken : ℕ) → IsSound inputs board taken → IsStill inputs.script taken (now board)
+pub done-without_turn : (inputs : Inputs) (board : BoardModel) (taken : ℕ) → IsSound inputs board taken → HasNoNextTurn inputs.script taken (now board)
     → ((now board).queue ≡ [] → (now board).steps ≡ [] → AreAtRest (now board).jobs) → is_done inputs.script taken (now board) ≡ true
-done-still inputs board taken s k rest =
+done-without_turn inputs board taken s k rest =
     let all : taken ≡ length inputs.script = at_end inputs.script taken s.within (λ below.
     (let next = there inputs.script taken below in
     k.waits next.0 next.1 (may_all (now board) s.idle (rest k.queue s.idle.steps) next.0.verb))) in

@@ -12,26 +12,26 @@ use Rattle.run_history.specs.World.{Submitted, job_at}
 use Rattle.run_history.specs.declared.command.Control.{Control}
 use Rattle.run_history.specs.declared.command.Control.TheVariants as control
 use Rattle.run_history.specs.declared.event.Outcome.{Outcome}
-use Rattle.run_history.proofs.Jobs.{advance_lands, by_advanced, by_failed, by_finished, by_stale, current_counts, fail_lands, finish_lands, flight_next}
+use Rattle.run_history.proofs.Jobs.{advance_ends_flight, by_advanced, by_failed, by_finished, by_stale, current_counts, fail_ends_flight, finish_ends_flight, flight_next}
 use Rattle.run_history.proofs.Laws.{job_at-added, job_at-added_other, job_at-with_job, job_at-with_other}
 use Rattle.coordinator.specs.Claims.{IsAloneInFlight}
-use Rattle.coordinator.specs.Coordinator.{AreLanded}
+use Rattle.coordinator.specs.Coordinator.{AreNotInFlight}
 
 some_same : (a b : Submitted) → Some a ≡ Some b → a ≡ b
 some_same a b h = cc
 
 -- a job that isn't in flight, in the place of one
-pub landed-set : (jobs : List Submitted) (n : ℕ) (s t : Submitted) → job_at jobs n ≡ Some s → t.job.in_flight ≡ false → ((m : ℕ) (u : Submitted) → m ≢ n → job_at jobs m ≡ Some u → u.job.in_flight ≡ false)
-    → AreLanded (with_job jobs n t)
-landed-set jobs n s t at still others m u e = elim (cases_eq m n) [
+pub not_in_flight-set : (jobs : List Submitted) (n : ℕ) (s t : Submitted) → job_at jobs n ≡ Some s → t.job.in_flight ≡ false → ((m : ℕ) (u : Submitted) → m ≢ n → job_at jobs m ≡ Some u → u.job.in_flight ≡ false)
+    → AreNotInFlight (with_job jobs n t)
+not_in_flight-set jobs n s t at still others m u e = elim (cases_eq m n) [
   | inl same ↦
       let is : t ≡ u = some_same t u (sym (subst (λ (k : ℕ). job_at (with_job jobs n t) k ≡ Some t) (sym same) (job_at-with_job jobs n s t at)) ∙ e) in
       subst (λ (x : Submitted). x.job.in_flight ≡ false) is still
   | inr other ↦ others m u other (sym (job_at-with_other jobs n m s t at other) ∙ e)
 ]
 
-pub landed-added : (jobs : List Submitted) (new : Submitted) → new.job.in_flight ≡ false → AreLanded jobs → AreLanded (jobs ++ new ∷ [])
-landed-added jobs new still h m u e = elim (cases_eq m (length jobs + 1)) [
+pub not_in_flight-added : (jobs : List Submitted) (new : Submitted) → new.job.in_flight ≡ false → AreNotInFlight jobs → AreNotInFlight (jobs ++ new ∷ [])
+not_in_flight-added jobs new still h m u e = elim (cases_eq m (length jobs + 1)) [
   | inl same ↦
       let is : new ≡ u = some_same new u (sym (subst (λ (k : ℕ). job_at (jobs ++ new ∷ []) k ≡ Some new) (sym same) (job_at-added jobs new)) ∙ e) in
       subst (λ (x : Submitted). x.job.in_flight ≡ false) is still
@@ -51,8 +51,8 @@ no_claim control.Resume = λ e. cc
 no_claim control.Discard = λ e. cc
 
 -- a command on a job puts none in flight
-pub landed-steered : (control : Control) (s : Submitted) → s.job.in_flight ≡ false → (next (act_of control) s.job).in_flight ≡ false
-landed-steered control s still = by_flight (next (act_of control) s.job).in_flight (λ flight. elim (flight_next (act_of control) s.job flight) [
+pub not_in_flight-steered : (control : Control) (s : Submitted) → s.job.in_flight ≡ false → (next (act_of control) s.job).in_flight ≡ false
+not_in_flight-steered control s still = by_flight (next (act_of control) s.job).in_flight (λ flight. elim (flight_next (act_of control) s.job flight) [
   | inl claim ↦ absurd (no_claim control claim)
   | inr before ↦ two_ways before still
 ])
@@ -67,7 +67,7 @@ claim_current Stopped job attempt e still flight = absurd (two_ways flight still
 claim_current Discarded job attempt e still flight = absurd (two_ways flight still)
 claim_current Finished job attempt e still flight = absurd (two_ways flight still)
 
-pub alone-claimed : (jobs : List Submitted) (n attempt : ℕ) (s t : Submitted) → job_at jobs n ≡ Some s → attempt ≡ s.job.attempt + 1 → t.job ≡ next Act.Claim s.job → AreLanded jobs
+pub alone-claimed : (jobs : List Submitted) (n attempt : ℕ) (s t : Submitted) → job_at jobs n ≡ Some s → attempt ≡ s.job.attempt + 1 → t.job ≡ next Act.Claim s.job → AreNotInFlight jobs
     → IsAloneInFlight n attempt (with_job jobs n t)
 alone-claimed jobs n attempt s t at first is h m u e flight = elim (cases_eq m n) [
   | inl same ↦
@@ -80,7 +80,7 @@ alone-claimed jobs n attempt s t at first is h m u e flight = elim (cases_eq m n
   | inr other ↦ absurd (two_ways flight (h m u (sym (job_at-with_other jobs n m s t at other) ∙ e)))
 ]
 
--- and its end lands it
+-- and its end takes it out of flight
 module _ (jobs : List Submitted) (n attempt : ℕ) (alone : IsAloneInFlight n attempt jobs) where
   others : (m : ℕ) (u : Submitted) → m ≢ n → job_at jobs m ≡ Some u → u.job.in_flight ≡ false
   others m u other at = by_flight u.job.in_flight (λ flight. other (alone m u at flight).0)
@@ -91,8 +91,8 @@ module _ (jobs : List Submitted) (n attempt : ℕ) (alone : IsAloneInFlight n at
       let clash : None ≡ Some u = sym none ∙ here in
       cc
 
-  pub landed-absent : job_at jobs n ≡ None → AreLanded jobs
-  landed-absent none m u at = by_flight u.job.in_flight (absent_clash none m u at)
+  pub not_in_flight-absent : job_at jobs n ≡ None → AreNotInFlight jobs
+  not_in_flight-absent none m u at = by_flight u.job.in_flight (absent_clash none m u at)
 
   stale_clash : (s : Submitted) → job_at jobs n ≡ Some s → is_current s.job attempt ≡ false → (m : ℕ) (u : Submitted) → job_at jobs m ≡ Some u → u.job.in_flight ≡ true → ⊥
   stale_clash s there stale m u at flight =
@@ -101,8 +101,8 @@ module _ (jobs : List Submitted) (n attempt : ℕ) (alone : IsAloneInFlight n at
       let clash : true ≡ false = sym (alone m u at flight).1 ∙ subst (λ (x : Submitted). is_current x.job attempt ≡ false) same stale in
       cc
 
-  landed_stale : (s : Submitted) → job_at jobs n ≡ Some s → is_current s.job attempt ≡ false → AreLanded jobs
-  landed_stale s there stale m u at = by_flight u.job.in_flight (stale_clash s there stale m u at)
+  not_in_flight_stale : (s : Submitted) → job_at jobs n ≡ Some s → is_current s.job attempt ≡ false → AreNotInFlight jobs
+  not_in_flight_stale s there stale m u at = by_flight u.job.in_flight (stale_clash s there stale m u at)
 
   -- the jobs after an end of this kind
   abbrev pub jobs_after : Ended → Submitted → List Submitted
@@ -111,11 +111,11 @@ module _ (jobs : List Submitted) (n attempt : ℕ) (alone : IsAloneInFlight n at
   jobs_after ended.Finished s = with_job jobs n (record s { job = next Act.Finish s.job })
   jobs_after ended.Failed s = with_job jobs n (record s { job = next Act.Fail s.job })
 
-  pub landed-ended : (how : Ended) (o : Outcome) (s : Submitted) → job_at jobs n ≡ Some s → end_by o s.job attempt ≡ how → AreLanded (jobs_after how s)
-  landed-ended ended.Stale o s there e = landed_stale s there (by_stale o s.job attempt e)
-  landed-ended ended.Advanced o s there e =
-      landed-set jobs n s (record s { job = next Act.Advance s.job }) there (advance_lands s.job (current_counts s.job attempt (by_advanced o s.job attempt e).0).running) others
-  landed-ended ended.Finished o s there e =
-      landed-set jobs n s (record s { job = next Act.Finish s.job }) there (finish_lands s.job (current_counts s.job attempt (by_finished o s.job attempt e).0).running) others
-  landed-ended ended.Failed o s there e =
-      landed-set jobs n s (record s { job = next Act.Fail s.job }) there (fail_lands s.job (current_counts s.job attempt (by_failed o s.job attempt e)).running) others
+  pub not_in_flight-ended : (how : Ended) (o : Outcome) (s : Submitted) → job_at jobs n ≡ Some s → end_by o s.job attempt ≡ how → AreNotInFlight (jobs_after how s)
+  not_in_flight-ended ended.Stale o s there e = not_in_flight_stale s there (by_stale o s.job attempt e)
+  not_in_flight-ended ended.Advanced o s there e =
+      not_in_flight-set jobs n s (record s { job = next Act.Advance s.job }) there (advance_ends_flight s.job (current_counts s.job attempt (by_advanced o s.job attempt e).0).running) others
+  not_in_flight-ended ended.Finished o s there e =
+      not_in_flight-set jobs n s (record s { job = next Act.Finish s.job }) there (finish_ends_flight s.job (current_counts s.job attempt (by_finished o s.job attempt e).0).running) others
+  not_in_flight-ended ended.Failed o s there e =
+      not_in_flight-set jobs n s (record s { job = next Act.Fail s.job }) there (fail_ends_flight s.job (current_counts s.job attempt (by_failed o s.job attempt e)).running) others

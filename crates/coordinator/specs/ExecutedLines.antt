@@ -33,8 +33,8 @@ pub record IsQuery (honest : Type 0) (old : BoardModel) (line : Line) (said : Bl
   pub products : new.products ≡ old.products
   pub answer : IsAnswerOver honest (now old) out said
 
-abbrev pub IsTaken : Type 0 → List LoadedTable → BoardModel → Line → Block → BoardModel → Type 0
-IsTaken honest tables old line said new = IsCommand tables old line said new ⊎ IsQuery honest old line said new
+abbrev pub HasExecuted : Type 0 → List LoadedTable → BoardModel → Line → Block → BoardModel → Type 0
+HasExecuted honest tables old line said new = IsCommand tables old line said new ⊎ IsQuery honest old line said new
 
 -- some turns of a query before its end
 pub record IsPartOfQuery (old : BoardModel) (line : Line) (new : BoardModel) : Type 0 where
@@ -45,5 +45,5 @@ pub record IsPartOfQuery (old : BoardModel) (line : Line) (new : BoardModel) : T
   pub grown : IsGrown old (take count (asked_turns line.number session)) new
 
 -- the line was not taken, or its query has no end
-abbrev pub IsTakenPart : BoardModel → Line → BoardModel → Type 0
-IsTakenPart old line new = IsGrown old [] new ⊎ IsPartOfQuery old line new
+abbrev pub HasExecutedPart : BoardModel → Line → BoardModel → Type 0
+HasExecutedPart old line new = IsGrown old [] new ⊎ IsPartOfQuery old line new
