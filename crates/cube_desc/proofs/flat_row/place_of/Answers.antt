@@ -4,9 +4,9 @@ use Rattle.std.specs.List.{position_or_len}
 use Rattle.std.proofs.lemmas.Iterator.{YieldsList-from_slice}
 use Rattle.std.proofs.lemmas.Iterator.Search.{position_from_yields_List}
 use Rattle.cube_desc.specs.Cube.{Cube}
-use Rattle.step_compute.specs.Columns.{is_column, measured, place_of}
-use Rattle.step_compute.proofs.ColumnFacts.{place_or_len}
-use Rattle.step_compute.proofs.columns.place_of.Goals as goal
+use Rattle.cube_desc.specs.FlatRow.{is_column, measured, place_of}
+use Rattle.cube_desc.proofs.FlatRowFacts.{place_or_len}
+use Rattle.cube_desc.proofs.flat_row.place_of.Goals as goal
 
 pub returns-in-Some : goal.returns-in-Some
 returns-in-Some c =

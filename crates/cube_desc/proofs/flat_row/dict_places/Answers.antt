@@ -1,6 +1,6 @@
 use Rattle.std.proofs.Common.{◌++◌, ◌∷◌, ◌∙◌, [], ap, sym}
-use Rattle.step_files.proofs.CubeFacts.{range_more}
-use Rattle.step_files.proofs.cube.dict_places.Goals as goal
+use Rattle.cube_desc.proofs.FlatRowFacts.{range_more}
+use Rattle.cube_desc.proofs.flat_row.dict_places.Goals as goal
 
 pub loop-place-preserved : goal.loop-place-preserved
 loop-place-preserved c =

@@ -3,9 +3,9 @@ use Rattle.std.specs.Prelude.{option_to_list}
 use Rattle.std.specs.List.{filter_map}
 use Rattle.std.proofs.lemmas.List.{take_more}
 use Rattle.cube_desc.specs.declared.desc.MeasureDesc.{MeasureDesc}
-use Rattle.step_compute.specs.Columns.{distinct_place}
-use Rattle.step_compute.proofs.ColumnFacts.{kept_more}
-use Rattle.step_compute.proofs.columns.distinct_places.Goals as goal
+use Rattle.cube_desc.specs.FlatRow.{distinct_place}
+use Rattle.cube_desc.proofs.FlatRowFacts.{kept_more}
+use Rattle.cube_desc.proofs.flat_row.distinct_places.Goals as goal
 
 pub loop-measure-preserved : goal.loop-measure-preserved
 loop-measure-preserved c =
