@@ -17,6 +17,7 @@
 #![tactic(auto)]
 
 mod desc;
+pub mod flat_row;
 mod groups;
 mod laws;
 mod read;

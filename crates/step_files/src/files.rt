@@ -13,8 +13,7 @@ use crate::product::Product;
 use crate::reading::read_body;
 use crate::task::Task;
 use crate::writing::{product_body, task_body};
-use byte_frame::ReadError;
-use byte_frame::{FrameHead, put_frame, take_frame};
+use byte_frame::{FrameHead, ReadError, put_frame, take_frame};
 use sha2::{Digest, Sha256};
 use std::alloc::{AllocError, Global};
 

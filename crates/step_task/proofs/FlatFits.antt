@@ -25,7 +25,8 @@ use Rattle.step_codec.specs.Layouts.{row_limit}
 use Rattle.step_codec.specs.Tables.{TableShape}
 use Rattle.step_fields.specs.Fits.{FitsColumn, FitsRow}
 use Rattle.step_fields.specs.declared.column.Column.{Column}
-use Rattle.step_files.specs.Cubes.{column_at, columns_in, flat_of as flat_columns, layout_of, measured, no_column, no_table, table_of, tables_of}
+use Rattle.cube_desc.specs.FlatRow.{measured}
+use Rattle.step_files.specs.Cubes.{column_at, columns_in, flat_columns, layout_of, no_column, no_table, table_of, tables_of}
 use Rattle.step_files.specs.Tasks.{FitsFlat}
 use Rattle.table_reader.specs.Keys.{key_of, val_at}
 use Rattle.step_task.proofs.CubeFacts.{loaded_at, loaded_length}
