@@ -1,8 +1,8 @@
-use Rattle.std.proofs.Common.{◌≡◌, All, take, subst, arith}
+use Rattle.std.proofs.Common.{All, subst, arith}
 use Rattle.std.proofs.lemmas.List.{take_all}
 use Rattle.agg_group.specs.Rules.{AreDimensions}
 use Rattle.agg_group.proofs.ListLemmas.{all_lists}
-use Rattle.agg_group.proofs.tests.are_small.Goals as goal
+use Rattle.descriptor_check.proofs.groups.are_small.Goals as goal
 
 pub returns : goal.returns
 returns c = λ _.

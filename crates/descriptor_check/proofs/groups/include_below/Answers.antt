@@ -1,6 +1,6 @@
 use Rattle.std.proofs.Common.{◌<◌, All, subst, arith}
 use Rattle.std.proofs.lemmas.List.{take_all}
-use Rattle.agg_group.proofs.tests.include_below.Goals as goal
+use Rattle.descriptor_check.proofs.groups.include_below.Goals as goal
 
 pub returns : goal.returns
 returns c = λ _.
