@@ -12,7 +12,7 @@ use Rattle.run_history.specs.World.{Submitted, job_at}
 use Rattle.run_history.specs.declared.command.Control.{Control}
 use Rattle.run_history.specs.declared.command.Control.TheVariants as control
 use Rattle.run_history.specs.declared.event.Outcome.{Outcome}
-use Rattle.run_history.proofs.Jobs.{advance_ends_flight, by_advanced, by_failed, by_finished, by_stale, current_counts, fail_ends_flight, finish_ends_flight, flight_next}
+use Rattle.run_history.proofs.Jobs.{advance_lands, by_advanced, by_failed, by_finished, by_stale, current_counts, fail_lands, finish_lands, flight_next}
 use Rattle.run_history.proofs.Laws.{job_at-added, job_at-added_other, job_at-with_job, job_at-with_other}
 use Rattle.coordinator.specs.Claims.{IsAloneInFlight}
 use Rattle.coordinator.specs.Coordinator.{AreNotInFlight}
@@ -114,8 +114,8 @@ module _ (jobs : List Submitted) (n attempt : ℕ) (alone : IsAloneInFlight n at
   pub not_in_flight-ended : (how : Ended) (o : Outcome) (s : Submitted) → job_at jobs n ≡ Some s → end_by o s.job attempt ≡ how → AreNotInFlight (jobs_after how s)
   not_in_flight-ended ended.Stale o s there e = not_in_flight_stale s there (by_stale o s.job attempt e)
   not_in_flight-ended ended.Advanced o s there e =
-      not_in_flight-set jobs n s (record s { job = next Act.Advance s.job }) there (advance_ends_flight s.job (current_counts s.job attempt (by_advanced o s.job attempt e).0).running) others
+      not_in_flight-set jobs n s (record s { job = next Act.Advance s.job }) there (advance_lands s.job (current_counts s.job attempt (by_advanced o s.job attempt e).0).running) others
   not_in_flight-ended ended.Finished o s there e =
-      not_in_flight-set jobs n s (record s { job = next Act.Finish s.job }) there (finish_ends_flight s.job (current_counts s.job attempt (by_finished o s.job attempt e).0).running) others
+      not_in_flight-set jobs n s (record s { job = next Act.Finish s.job }) there (finish_lands s.job (current_counts s.job attempt (by_finished o s.job attempt e).0).running) others
   not_in_flight-ended ended.Failed o s there e =
-      not_in_flight-set jobs n s (record s { job = next Act.Fail s.job }) there (fail_ends_flight s.job (current_counts s.job attempt (by_failed o s.job attempt e)).running) others
+      not_in_flight-set jobs n s (record s { job = next Act.Fail s.job }) there (fail_lands s.job (current_counts s.job attempt (by_failed o s.job attempt e)).running) others
