@@ -4,11 +4,16 @@
 //! program gives an `Answerer`; the rest is here. It is no part of the product.
 #![tactic(auto)]
 
+mod escapes;
+mod words;
+
 ghost use Rattle.std.specs.Prelude.{◌<◌, IfOk};
 
+pub use escapes::{put_escaped, unescaped};
 use std::alloc::Global;
 use std::io;
 use std::io::{BufRead, BufReader, BufWriter, ErrorKind, Write};
+pub use words::Words;
 
 /// What answers a line.
 pub trait Answerer {
