@@ -1,6 +1,6 @@
 // Extremes and sets of ids.
 
-ghost use Rattle.std.specs.Prelude.{◌≡◌, ◌≤◌, IfOk, OnOk};
+ghost use Rattle.std.specs.Prelude.{◌≡◌, IfOk};
 
 use check_lines::{Words, unknown_line};
 use measure_laws::{IdSet, Max, Measure, Min};
