@@ -43,6 +43,3 @@ pub use order::cmp;
 pub use rows::{ROW_LIMIT, Row, Table};
 pub use text::{TEXT_MAX, TextVal};
 pub use val::{ColType, ReadVal, Val, read_val, val_text};
-
-#[cfg(test)]
-mod tests;
