@@ -1,11 +1,8 @@
 -- The dictionaries and the aggregates of a cube.
-use Rattle.std.proofs.Common.{◌≡◌, ◌∙◌, ◌+◌, ◌++◌, ◌∷◌, [], ℕ, Bool, cond, List, Option, Some, None, ap, arith, length, length-append, refl, sym, inl, inr, ltb}
-use Rattle.std.specs.Prelude.{filter, map, not, option_to_list, unwrap_or}
-use Rattle.std.specs.List.{cons_option, filter_map, position_or_len, range_with_len}
-use Rattle.std.proofs.lemmas.Bool.{cases_lt, le-ltb, lt-ltb}
-use Rattle.std.proofs.lemmas.List.{map-id}
-use Rattle.std.proofs.lemmas.List.Sums.{prefix_len-le-length}
-use Rattle.std.proofs.lemmas.List.FromFn.{length-range_with_len, map-range_with_len_more}
+use Rattle.std.proofs.Common.{◌≡◌, ◌+◌, ◌∷◌, [], cond, List, arith, length, length-append, refl}
+use Rattle.std.specs.Prelude.{filter, map, not}
+use Rattle.std.specs.List.{cons_option, filter_map, range_with_len}
+use Rattle.std.proofs.lemmas.List.FromFn.{length-range_with_len}
 use Rattle.cube_desc.specs.Cube.{Cube}
 use Rattle.cube_desc.specs.declared.desc.MeasureDesc.{MeasureDesc}
 use Rattle.layer_builder.specs.Base.{count_of_distincts}

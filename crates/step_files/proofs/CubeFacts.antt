@@ -1,13 +1,9 @@
 -- What the loops over a cube's measures and columns need.
-use Rattle.std.proofs.Common.{◌≡◌, ◌∙◌, ◌≤◌, ◌<◌, ◌+◌, ◌^◌, ◌++◌, ◌∷◌, [], ℕ, Bool, true, false, cond, List, Option, Some, None, ap, arith, length, refl, sym, inl, inr, ltb}
-use Rattle.std.specs.Prelude.{filter, not, option_to_list, unwrap_or}
-use Rattle.std.specs.List.{cons_option, filter_map, flat_map, position_or_len, range_with_len}
-use Rattle.std.proofs.lemmas.Bool.{cases_lt, le-ltb, lt-ltb}
-use Rattle.std.proofs.lemmas.List.{append-nil, length-map, map-id}
+use Rattle.std.proofs.Common.{◌≡◌, ◌∙◌, ◌≤◌, ◌<◌, ◌+◌, ◌^◌, ◌++◌, ◌∷◌, [], ℕ, Bool, true, false, cond, List, ap, arith, length, refl}
+use Rattle.std.specs.Prelude.{filter, not}
+use Rattle.std.specs.List.{flat_map, range_with_len}
+use Rattle.std.proofs.lemmas.List.{append-nil, length-map}
 use Rattle.std.proofs.lemmas.Grind.{flat_map-append}
-use Rattle.std.proofs.lemmas.List.Elements.{filter_map-append}
-use Rattle.std.proofs.lemmas.List.Sums.{prefix_len-le-length}
-use Rattle.std.proofs.lemmas.List.FromFn.{map-range_with_len_more}
 use Rattle.cube_val.specs.declared.form.ColDesc.{ColDesc}
 use Rattle.cube_desc.specs.Cube.{Cube}
 use Rattle.cube_desc.specs.Sound.{IsSound}

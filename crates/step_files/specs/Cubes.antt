@@ -1,6 +1,6 @@
 -- What the step files of a cube are read by.
-use Rattle.std.specs.Prelude.{ℕ, ◌+◌, Bool, true, false, ◌==◌, ◌&&◌, not, List, [], ◌∷◌, ◌++◌, Option, Some, None, drop, filter, length, map, option_to_list, slice_get, slice_index_or}
-use Rattle.std.specs.List.{filter_map, flat_map, position_or_len, range_with_len}
+use Rattle.std.specs.Prelude.{ℕ, ◌+◌, Bool, true, false, ◌==◌, ◌&&◌, not, List, [], ◌∷◌, ◌++◌, Option, Some, None, filter, length, map, option_to_list, slice_get, slice_index_or}
+use Rattle.std.specs.List.{flat_map, range_with_len}
 use Rattle.cube_val.specs.declared.form.ColDesc.{ColDesc}
 use Rattle.cube_val.specs.declared.form.WideCol.{WideCol}
 use Rattle.cube_val.specs.declared.val.ColType.TheVariants as ty

@@ -1,4 +1,3 @@
-use Rattle.std.proofs.Common.{refl}
 use Rattle.step_files.proofs.WorkReads.{base_given, no_base_desc, no_base_work}
 use Rattle.step_files.proofs.reading.read_base_task.Goals as goal
 

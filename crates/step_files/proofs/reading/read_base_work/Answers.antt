@@ -1,11 +1,4 @@
-use Rattle.std.proofs.Common.{ℕ, List, subst, refl, ◌≡◌, Option, Some}
-use Rattle.byte_frame.specs.Outcomes.{Fails}
-use Rattle.cube_val.specs.declared.val.Val.{Val}
-use Rattle.step_codec.specs.Layouts.{row_limit, size_limit}
-use Rattle.step_codec.specs.Reading.{holding_at}
-use Rattle.step_codec.specs.declared.layout.Layout.{Layout}
-use Rattle.step_fields.specs.Reading.{rows_at}
-use Rattle.step_fields.specs.declared.column.Column.{Column}
+use Rattle.std.proofs.Common.{refl}
 use Rattle.step_files.proofs.WorkReads.{base_rows_given, no_base_dicts, no_base_rows}
 use Rattle.step_files.proofs.reading.read_base_work.Goals as goal
 
