@@ -89,11 +89,11 @@ pub fn answer_lookup<W: Write>(alloc: Global, words: &[u8], out: &mut W) -> io::
 pub fn answer_find<W: Write>(alloc: Global, words: &[u8], out: &mut W) -> io::Result<()> {
     let (rows, keys) = split_at_space(words);
     let snap = lookup_in(alloc, rows)?;
-    let mut between = "";
+    let mut between: &[u8] = b"";
     for key in keys.split(|byte| *byte == b' ') {
-        write!(out, "{between}")?;
+        out.write_all(between)?;
         put_found(alloc, &snap, key, out)?;
-        between = " ";
+        between = b" ";
     }
     Ok(())
 }

@@ -1,9 +1,10 @@
 //! Says of each line of standard input what the libraries of days, values, tables and lookups make of it.
 //!
-//! A line is a word for the call and then what it is called with. Bytes stand with the escapes of `check_lines`, and are printed so too.
+//! A line is a word for the call and then what it is called with. Bytes stand percent-encoded, so that `%0A` is a line feed; they are
+//! printed so too.
 //!
 //! - `day`, `later`, `range`, `overlap` and `ranges` are answered by the module `days`: days, ranges of them and lists of ranges.
-//! - `value`, `units`, `order`, `row`, `rows`, `name` and `columns` by `values`: values, rows, tables and forms.
+//! - `value`, `units`, `order`, `row`, `rows`, `name`, `columns` and `places` by `values`: values, rows, tables and forms.
 //! - `table` and `long` by `tables`: the rows of a table file, or its first fault.
 //! - `lookup`, `find` and `same` by `lookups`: the rows of a lookup by their keys.
 //!
@@ -20,7 +21,8 @@ use crate::days::{answer_day, answer_later, answer_overlap, answer_range, answer
 use crate::lookups::{answer_find, answer_lookup, answer_same};
 use crate::tables::{answer_long, answer_table};
 use crate::values::{
-    answer_columns, answer_name, answer_order, answer_row, answer_rows, answer_units, answer_value,
+    answer_columns, answer_name, answer_order, answer_places, answer_row, answer_rows,
+    answer_units, answer_value,
 };
 use crate::words::split_at_space;
 use check_lines::{Answerer, answer_lines, unknown_line};
@@ -64,6 +66,7 @@ fn answer_of_values<W: Write>(
         b"rows" => answer_rows(alloc, words, out),
         b"name" => answer_name(alloc, words, out),
         b"columns" => answer_columns(alloc, words, out),
+        b"places" => answer_places(alloc, words, out),
         _ => answer_of_tables(alloc, call, words, out),
     }
 }

@@ -1,6 +1,7 @@
 // The rows of a table file, or its first fault.
 
-ghost use Rattle.std.specs.Prelude.{◌≡◌, ◌<◌, All, IfOk, OnTrue, length};
+ghost use Rattle.std.specs.Prelude.{◌≡◌, ◌<◌, All, length};
+ghost use Rattle.std.specs.Bool.{OnTrue};
 
 use crate::values::{column_in, put_value};
 use crate::words::{decoded, place_in, split_at, split_at_space};

@@ -1,10 +1,9 @@
 // Values, rows, tables and forms.
 
-ghost use Rattle.std.specs.Prelude.{IfOk};
 ghost use Rattle.cube_val.specs.Values.{FitsType};
 
-use crate::words::{decoded, number_in, split_at, split_at_space};
-use check_lines::{out_of_memory, put_escaped, unknown_line};
+use crate::words::{decoded, number_in, place_in, put_bytes, split_at, split_at_space};
+use check_lines::{out_of_memory, unknown_line};
 use cube_val::{
     ColDesc, ColType, Items, NameText, ReadVal, Row, Table, TableSet, Val, cmp, decimal_text,
     read_val, val_text,
@@ -42,7 +41,7 @@ pub fn put_value<W: Write>(alloc: Global, v: &Val, out: &mut W) -> io::Result<()
     match v {
         Val::Null => write!(out, "\\N"),
         Val::Int(number) => write!(out, "{number}"),
-        Val::Text(text) => put_escaped(out, text.bytes()),
+        Val::Text(text) => put_bytes(alloc, text.bytes(), out),
     }
 }
 
@@ -68,7 +67,7 @@ fn put_read<W: Write>(alloc: Global, ty: ColType, v: &Val, out: &mut W) -> io::R
         Val::Text(_) => write!(out, "Text ")?,
     }
     let text = val_text(alloc, ty, v)?;
-    put_escaped(out, text.as_slice())
+    put_bytes(alloc, text.as_slice(), out)
 }
 
 /// `units N`: what is printed of so many units of 1/10000.
@@ -210,6 +209,29 @@ pub fn answer_columns<W: Write>(alloc: Global, words: &[u8], out: &mut W) -> io:
     for column in copies.into_vec().as_slice() {
         out.write_all(b" ")?;
         out.write_all(column.name.bytes())?;
+    }
+    Ok(())
+}
+
+// The places that words write.
+fn places_in(alloc: Global, words: &[u8]) -> io::Result<Vec<usize>> {
+    let mut places = Vec::new(alloc);
+    if words.is_empty() {
+        return Ok(places);
+    }
+    for word in words.split(|byte| *byte == b' ') {
+        places.push(place_in(word)?)?;
+    }
+    Ok(places)
+}
+
+/// `places N ..`: how many places the list has that is made of these, whether it has none, and what is taken out of it.
+pub fn answer_places<W: Write>(alloc: Global, words: &[u8], out: &mut W) -> io::Result<()> {
+    let places = places_in(alloc, words)?;
+    let list = Items::from_slice(alloc, places.as_slice())?;
+    write!(out, "{} {}", list.len(), list.is_empty())?;
+    for place in list.into_vec().as_slice() {
+        write!(out, " {place}")?;
     }
     Ok(())
 }

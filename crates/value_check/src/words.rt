@@ -1,8 +1,10 @@
 // The words of a line, and bytes as they stand in it.
 
-use check_lines::{unescaped, unknown_line};
-use std::alloc::Global;
+use check_lines::unknown_line;
+use percent_encoding::{CONTROLS, percent_decode, percent_encode};
+use std::alloc::{AllocError, Global};
 use std::io;
+use std::io::Write;
 
 /// What stands before the first such byte, and what stands after it.
 pub fn split_at(line: &[u8], byte: u8) -> (&[u8], &[u8]) {
@@ -19,12 +21,18 @@ pub fn split_at_space(line: &[u8]) -> (&[u8], &[u8]) {
     split_at(line, b' ')
 }
 
-/// The bytes that a word with escapes stands for.
-pub fn decoded(alloc: Global, word: &[u8]) -> io::Result<Vec<u8>> {
-    match str::from_utf8(word) {
-        Ok(text) => unescaped(alloc, text),
-        Err(_) => Err(unknown_line()),
-    }
+/// The bytes that percent-encoded bytes stand for.
+pub fn decoded(alloc: Global, text: &[u8]) -> Result<Vec<u8>, AllocError> {
+    let mut bytes = Vec::new(alloc);
+    percent_decode(text).append_to(&mut bytes)?;
+    Ok(bytes)
+}
+
+/// Writes bytes percent-encoded.
+pub fn put_bytes<W: Write>(alloc: Global, bytes: &[u8], out: &mut W) -> io::Result<()> {
+    let mut text = String::new(alloc);
+    percent_encode(bytes, CONTROLS.add(b'%')).append_to(&mut text)?;
+    out.write_all(text.as_bytes())
 }
 
 /// The number that decimal digits write, or digits after a minus.
