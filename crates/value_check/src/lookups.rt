@@ -1,6 +1,6 @@
 // The rows of a lookup by their keys.
 
-ghost use Rattle.std.specs.Prelude.{◌≡◌, ◌∷◌, [], All, IfOk, length};
+ghost use Rattle.std.specs.Prelude.{◌≡◌, All, IfOk, length};
 
 use crate::values::put_value;
 use crate::words::{decoded, split_at, split_at_space};
