@@ -4,7 +4,8 @@
 
 It writes the program's `stdin` and `stdout`. The files of the five steps of a small BUILD are those of step_build.py; which of the
 others are tasks and products is said here, byte by byte. Each step of that BUILD, and of one of the sample cube, is run too: its
-product is that of step_build.py. docs/FORMATS.md has the formats.
+product is that of step_build.py. docs/FORMATS.md has the formats. The lines from the first one on that begins with `# ` are cases written
+by hand; they stay as they are.
 """
 
 import hashlib
@@ -154,7 +155,6 @@ def lines():
     for tag in (0, 6, 7):
         yield [frame(u8(tag) + dict_head[1:] + kinds[1][2])], ["BadTask"]
     yield [bytes(10)], ["BadTask"]
-    yield [b""], ["BadTask"]
     yield [frame(b"")], ["BadTask"]
     yield [frame(b"")[:-1]], ["BadTask"]
     front = frame(b"")[:42] + b"\xff" * 8
@@ -173,7 +173,15 @@ def runs():
         yield word, b"", "fault: BadTask"
 
 
+def kept(name):
+    """What stands behind the lines of this script: from the first head of cases on, written by hand."""
+    with open(os.path.join(FOLDER, name)) as file:
+        text = file.read()
+    return text[text.index("# ") :]
+
+
 def main():
+    behind = [kept("stdin"), kept("stdout")]
     with open(os.path.join(FOLDER, "stdin"), "w") as questions, open(os.path.join(FOLDER, "stdout"), "w") as answers:
         for files, words in lines():
             print(*(file.hex() for file in files), file=questions)
@@ -181,6 +189,8 @@ def main():
         for word, task, answer in runs():
             print(word, task.hex(), file=questions)
             print(answer, file=answers)
+        questions.write(behind[0])
+        answers.write(behind[1])
 
 
 if __name__ == "__main__":

@@ -11,6 +11,7 @@ use Rattle.std.proofs.lemmas.List.Elements.{filter-append, All-nil, All-push, Al
 use Rattle.std.proofs.lemmas.Bool.{cases_Bool, cases_eq, cases_lt, eqb-true, eq-eqb, or_left, false≢true}
 use Rattle.std.proofs.lemmas.Bool.Decides.{Decides-eqb, Decides-like, same_from_decides}
 use Rattle.std.proofs.lemmas.Nat.Bits.{bit_at_ones, bit_at_above, same_from_bits_below}
+use Rattle.agg_group.specs.Limits.{most_dimensions}
 use Rattle.agg_group.specs.declared.mask.Mask.{Mask}
 use Rattle.agg_group.specs.Sets.{dimensions, has_all}
 use Rattle.agg_group.specs.Mask.{has, IsWithin, IsRising, HasBase}
@@ -70,7 +71,7 @@ full_is n m below =
     )
 
 -- `1 << n`
-pub shifted_one : (n : ℕ) → n ≤ 20 → 1 * 2 ^ n % 18446744073709551616 ≡ 2 ^ n
+pub shifted_one : (n : ℕ) → n ≤ most_dimensions → 1 * 2 ^ n % 18446744073709551616 ≡ 2 ^ n
 shifted_one n few = omega (arith, pow_below n 64 (omega arith))
 
 -- ---- what is kept: the masks rise, each below the number, and those that pass are among them

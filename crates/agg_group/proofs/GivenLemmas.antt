@@ -10,6 +10,7 @@ use Rattle.std.proofs.lemmas.Bool.Decides.{Decides-eqb, Decides-or, Decides-by_a
 use Rattle.std.proofs.lemmas.List.Elements.{Decides-contains, All-contains, filter_passes}
 use Rattle.std.proofs.lemmas.List.Recursion.{or_at}
 use Rattle.std.proofs.lemmas.Nat.Bits.{bit_at_above, bit_at_cat_low, bit_at-lt, same_from_bits}
+use Rattle.agg_group.specs.Limits.{most_dimensions}
 use Rattle.agg_group.specs.declared.mask.Mask.{Mask}
 use Rattle.agg_group.specs.Sets.{dimensions, is_among, has_all, has_some, has_none, is_subset, keeps_hierarchy, keeps_joint, KeepsHierarchy, KeepsJoint}
 use Rattle.agg_group.specs.Mask.{has}
@@ -119,7 +120,7 @@ dimension_below : (n : ℕ) (m : Mask) → m.0 < 2 ^ n → (d : ℕ) → has m d
 dimension_below n m fits d h =
     elim (cases_lt d n) [ inl low ↦ low | inr high ↦ absurd (false≢true (sym (has_below n m fits d high) ∙ h)) ]
 
-built_says : (n : ℕ) (groups : List Rules) (m : Mask) → n ≤ 20 → m.0 < 2 ^ n → is_built n groups (has m) ≡ true → IsBuilt n groups (has m)
+built_says : (n : ℕ) (groups : List Rules) (m : Mask) → n ≤ most_dimensions → m.0 < 2 ^ n → is_built n groups (has m) ≡ true → IsBuilt n groups (has m)
 built_says n groups m few fits h =
     elim (or_cases (has_all (has m) (dimensions n)) _ h) [
       | inl all ↦ inl (λ d. (dimension_below n m fits d, λ low. all_in_range (has m) 0 n all d (omega arith) (omega arith)))
@@ -128,7 +129,7 @@ built_says n groups m few fits h =
           inr (one.0, one.1, (given_decides one.0 (has m) (λ d high. has_below n m fits d (omega arith))).0 one.2))
     ]
 
-built_tested : (n : ℕ) (groups : List Rules) (m : Mask) → n ≤ 20 → m.0 < 2 ^ n → IsBuilt n groups (has m) → is_built n groups (has m) ≡ true
+built_tested : (n : ℕ) (groups : List Rules) (m : Mask) → n ≤ most_dimensions → m.0 < 2 ^ n → IsBuilt n groups (has m) → is_built n groups (has m) ≡ true
 built_tested n groups m few fits (inl base) = or_left _ _ (all_from_range (has m) 0 n (λ d low high. (base d).1 (omega arith)))
 built_tested n groups m few fits (inr w) =
     or_right (has_all (has m) (dimensions n)) _
@@ -160,7 +161,7 @@ built_fits n groups m of (inr w) =
     absurd (omega arith)))
 
 -- the built masks are those whose sets are built
-pub built_each : (n : ℕ) (groups : List Rules) → n ≤ 20 → AreOf n groups → (m : Mask) → Contains (built_masks n groups) m ↔ IsBuilt n groups (has m)
+pub built_each : (n : ℕ) (groups : List Rules) → n ≤ most_dimensions → AreOf n groups → (m : Mask) → Contains (built_masks n groups) m ↔ IsBuilt n groups (has m)
 unfolding built_masks
 built_each n groups few of m = (
   λ at.

@@ -2,6 +2,7 @@ pub mod Sets
 pub mod Mask
 pub mod Rules
 pub mod Faults
+pub mod Limits
 pub mod Built
 pub mod GroupLists
 pub mod Least

@@ -17,11 +17,8 @@ mod group;
 mod lists;
 mod mask;
 
-pub use built::{MOST_CUBOIDS, valid_masks};
+pub use built::{MOST_CUBOIDS, MOST_DIMENSIONS, valid_masks};
 pub use examples::worked_examples;
 pub use fault::{GroupFault, MaskFault};
 pub use group::{DimList, Group};
 pub use mask::Mask;
-
-#[cfg(test)]
-mod tests;

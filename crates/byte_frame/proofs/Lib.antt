@@ -1,3 +1,4 @@
 pub mod Exact
 pub mod Loop
 pub mod Wide
+pub mod ExactFrames

@@ -3,3 +3,7 @@ pub mod Spelling
 pub mod Exact
 pub mod Outcomes
 pub mod Laws
+pub mod Frames
+pub mod FrameReading
+pub mod FrameLaws
+pub mod FrameExamples

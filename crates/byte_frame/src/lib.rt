@@ -4,6 +4,14 @@
 //! and the ways to join them that this crate has; it stands on no other crate of the engine, and its names
 //! stand in no format. Numbers are big endian, signed ones two's complement.
 //!
+//! # Frames
+//!
+//! A frame is the eight bytes `CUBEFRM1`, a u16 version, the 32 bytes of a task's digest, a u64 length, so many bytes
+//! of a body, and the SHA-256 of all before it; nothing follows. It has 82 bytes more than its body. What a body says,
+//! and which versions and digests may stand in a frame, is for the formats above to say. [`put_frame`] writes exactly
+//! the frame of a head and a body, and [`take_frame`] finds exactly the head and the body of bytes that are a frame and
+//! answers [`Torn`] for all others; it takes no memory.
+//!
 //! # How a format is put together
 //!
 //! Say that an entry is a u16 number and a list of u32 sizes, each at most a limit, and that the sizes rise.
@@ -42,24 +50,24 @@
 //! - `lists`: lists of items, by their contexts.
 //! - `rising`: the test that a list rises strictly.
 //! - `fault`: why bytes gave no value.
-//! - `laws` and `examples`: what holds of all fields, and the readers at short bytes.
+//! - `frames`: frames written and read.
+//! - `laws` and `examples`: what holds of all fields and frames, the readers at short bytes, and a frame byte by byte.
 #![tactic(auto)]
 
 mod examples;
 mod fault;
 mod fields;
+mod frames;
 mod laws;
 mod lists;
 mod put;
 mod rising;
 
-pub use examples::worked_examples;
+pub use examples::{worked_examples, worked_frames};
 pub use fault::ReadError;
 pub use fields::FieldReader;
-pub use laws::fields_are_exact;
+pub use frames::{FrameHead, Torn, put_frame, take_frame};
+pub use laws::{fields_are_exact, frames_are_exact};
 pub use lists::{Reads, read_counted, read_each, read_items, read_list};
 pub use put::{put_bytes, put_i64, put_i128, put_u8, put_u16, put_u32, put_u64};
 pub use rising::{Below, rise};
-
-#[cfg(test)]
-mod tests;

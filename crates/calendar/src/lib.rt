@@ -19,6 +19,3 @@ mod laws;
 pub use day::Day;
 pub use examples::worked_examples;
 pub use laws::{dates_are_counted, dates_are_read};
-
-#[cfg(test)]
-mod tests;

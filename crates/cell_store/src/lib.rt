@@ -21,6 +21,3 @@ pub use cell::Cell;
 pub use examples::worked_examples;
 pub use steps::Steps;
 pub use table::{CellRow, CellTable};
-
-#[cfg(test)]
-mod tests;

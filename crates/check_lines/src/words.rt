@@ -1,6 +1,7 @@
 // The words of a line.
 
-use crate::unknown_line;
+use crate::{unescaped, unknown_line};
+use std::alloc::Global;
 use std::io;
 
 /// The words of a line, taken one after the other. One space parts two words.
@@ -51,5 +52,28 @@ impl<'a> Words<'a> {
     /// What stands behind the words that were taken.
     pub fn rest(&self) -> &'a str {
         self.rest.unwrap_or("")
+    }
+    /// The words that are left, each with its escapes read; `''` is the empty word. An error where one is no text.
+    pub fn strings(&self, alloc: Global) -> io::Result<Vec<String>> {
+        let mut list = Vec::new(alloc);
+        let Some(rest) = self.rest else {
+            return Ok(list);
+        };
+        for word in rest.split(' ') {
+            list.push(string_of(alloc, word)?)?;
+        }
+        Ok(list)
+    }
+}
+
+// The text that a word stands for.
+fn string_of(alloc: Global, word: &str) -> io::Result<String> {
+    if word == "''" {
+        return Ok(String::new(alloc));
+    }
+    let bytes = unescaped(alloc, word)?;
+    match str::from_utf8(bytes.as_slice()) {
+        Ok(text) => Ok(String::from_str(alloc, text)?),
+        Err(_) => Err(unknown_line()),
     }
 }

@@ -32,10 +32,17 @@ step_app = with_ids (new_app (codes "step")) (codes "task" ∷ codes "product" �
 abbrev pub without_name : App → App
 without_name app = record app { top = record app.top { no_binary_name = true } }
 
--- the command line of the program
+-- the command line of the program, so far with the subcommands that run jobs
+abbrev pub jobs_app : App
+jobs_app = with_subcommand (with_subcommand (without_name (new_app (codes "cubes"))) run_app.top) demo_app.top
+
+-- .. and with those that print what a file says
+abbrev pub reports_app : App
+reports_app = with_subcommand (with_subcommand jobs_app fold_app.top) cuboids_app.top
+
+-- .. with all of them
 abbrev pub cubes : App
-cubes =
-    with_subcommand (with_subcommand (with_subcommand (with_subcommand (with_subcommand (without_name (new_app (codes "cubes"))) run_app.top) demo_app.top) fold_app.top) cuboids_app.top) step_app.top
+cubes = with_subcommand reports_app step_app.top
 
 -- the built command is this one, and it has no argument that counts for all subcommands
 abbrev pub IsApp : Command → App → Type 0

@@ -17,6 +17,3 @@ mod values;
 pub use examples::worked_examples;
 pub use order::{Order, WordsRefusal};
 pub use read::read_words;
-
-#[cfg(test)]
-mod tests;

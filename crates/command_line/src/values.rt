@@ -2,8 +2,8 @@
 
 ghost use Rattle.std.specs.Prelude.{◌≡◌, ◌≤◌, ◌⊎◌, ◌+◌, ◌∷◌, [], ℕ, List, IfErr, IfOk, IsSome, None, Some, codes, option_map};
 ghost use Rattle.std.specs.String.{string_bytes};
-ghost use Rattle.clap.specs.Words.{app_of, kind_of, new_app, subcommand_of, subcommand_rows_of};
-ghost use Rattle.command_line.specs.Values.{IsApp, cubes, demo_app, run_app, step_app, value_of, with_ids};
+ghost use Rattle.clap.specs.Words.{App, app_of, kind_of, new_app, subcommand_of, subcommand_rows_of};
+ghost use Rattle.command_line.specs.Values.{IsApp, cubes, demo_app, jobs_app, reports_app, run_app, step_app, value_of, with_ids};
 ghost use Rattle.command_line.specs.Words.{AreLawful, Writes, bytes_of_words};
 
 use crate::form::number;
@@ -19,52 +19,65 @@ fn on_path<'a>(alloc: Global, name: &'a str) -> Result<Command<'a>, AllocError>
     Command::new(alloc, name).arg(path)
 }
 
+// The subcommand with one argument more, at a place of its own.
+fn with_place<'a>(
+    alloc: Global,
+    command: Command<'a>,
+    id: &'a str,
+) -> Result<Command<'a>, AllocError>
+    ensures { (app : App) → IsApp command.entry app → IfOk result (λ c. IsApp c (with_ids app (id.entry.now ∷ []))) }
+{
+    command.arg(Arg::new(alloc, id))
+}
+
 // `run`.
 fn run<'a>(alloc: Global) -> Result<Command<'a>, AllocError>
     ensures { IfOk result (λ c. IsApp c run_app) }
 {
-    let workers = Arg::new(alloc, "workers").long("workers");
-    on_path(alloc, "run")?.arg(workers)
+    let command = on_path(alloc, "run")?;
+    command.arg(Arg::new(alloc, "workers").long("workers"))
 }
 
 // `demo`.
 fn demo<'a>(alloc: Global) -> Result<Command<'a>, AllocError>
     ensures { IfOk result (λ c. IsApp c demo_app) }
 {
-    let number = Arg::new(alloc, "number");
-    let rows = Arg::new(alloc, "rows");
-    Command::new(alloc, "demo").arg(number)?.arg(rows)
+    let numbered = with_place(alloc, Command::new(alloc, "demo"), "number")?;
+    with_place(alloc, numbered, "rows")
 }
 
 // `step`.
 fn step<'a>(alloc: Global) -> Result<Command<'a>, AllocError>
     ensures { IfOk result (λ c. IsApp c step_app) }
 {
-    let task = Arg::new(alloc, "task");
-    let product = Arg::new(alloc, "product");
-    let stop = Arg::new(alloc, "stop");
-    Command::new(alloc, "step")
-        .arg(task)?
-        .arg(product)?
-        .arg(stop)
+    let from_task = with_place(alloc, Command::new(alloc, "step"), "task")?;
+    let to_product = with_place(alloc, from_task, "product")?;
+    with_place(alloc, to_product, "stop")
+}
+
+// The program's command line so far: the subcommands that run jobs.
+fn with_jobs<'a>(alloc: Global) -> Result<Command<'a>, AllocError>
+    ensures { IfOk result (λ c. app_of c ≡ jobs_app) }
+{
+    let named = Command::new(alloc, "cubes").no_binary_name(true);
+    named.subcommand(run(alloc)?)?.subcommand(demo(alloc)?)
+}
+
+// .. and those that print what a file says.
+fn with_reports<'a>(alloc: Global) -> Result<Command<'a>, AllocError>
+    ensures { IfOk result (λ c. app_of c ≡ reports_app) }
+{
+    let jobs = with_jobs(alloc)?;
+    jobs.subcommand(on_path(alloc, "fold")?)?
+        .subcommand(on_path(alloc, "cuboids")?)
 }
 
 // The program's command line.
 fn program<'a>(alloc: Global) -> Result<Command<'a>, AllocError>
     ensures { IfOk result (λ c. app_of c ≡ cubes) }
 {
-    let run = run(alloc)?;
-    let demo = demo(alloc)?;
-    let fold = on_path(alloc, "fold")?;
-    let cuboids = on_path(alloc, "cuboids")?;
-    let step = step(alloc)?;
-    let named = Command::new(alloc, "cubes").no_binary_name(true);
-    named
-        .subcommand(run)?
-        .subcommand(demo)?
-        .subcommand(fold)?
-        .subcommand(cuboids)?
-        .subcommand(step)
+    let reports = with_reports(alloc)?;
+    reports.subcommand(step(alloc)?)
 }
 
 /// The matches of words whose form was checked. They fail for want of memory alone.

@@ -1,4 +1,5 @@
 pub mod FirstColumns
+pub mod FlatRowFacts
 pub mod FormFacts
 pub mod GroupLemmas
 pub mod Judged

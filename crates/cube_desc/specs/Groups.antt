@@ -8,6 +8,7 @@ use Rattle.descriptor_json.specs.declared.raw.RawDesc.{RawDesc}
 use Rattle.agg_group.specs.Rules.{Rules}
 use Rattle.agg_group.specs.Faults.{group_fault}
 use Rattle.agg_group.specs.Built.{built_masks}
+use Rattle.agg_group.specs.Limits.{most_cuboids}
 use Rattle.agg_group.specs.declared.mask.Mask.{Mask}
 use Rattle.desc_checks.specs.Firsts.{unless}
 
@@ -51,6 +52,6 @@ groups_of r = map (rules_of r.rowkey.items) r.groups.items
 abbrev pub masks_of : RawDesc → List Mask
 masks_of r = built_masks (length r.rowkey.items) (groups_of r)
 
--- more than 512 cuboids
+-- more cuboids than a cube may have
 abbrev pub too_many_cuboids : RawDesc → List JsonPointer
-too_many_cuboids r = unless (nat_le (length (masks_of r)) 512) r.groups.place
+too_many_cuboids r = unless (nat_le (length (masks_of r)) most_cuboids) r.groups.place

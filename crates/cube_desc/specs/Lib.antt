@@ -1,4 +1,5 @@
 pub mod Cube
+pub mod FlatRow
 pub mod Forms
 pub mod Groups
 pub mod Meaning

@@ -1,4 +1,5 @@
--- The descriptor with numbers for names. Where a name isn't there 0 stands for it; the checks leave no such name.
+-- The descriptor with numbers for names. Where a name isn't there 0 stands for it, and where a word is none the last of its kind; the
+-- checks leave no such name and no such word.
 use Rattle.std.specs.Prelude.{ℕ, suc, List, [], ◌∷◌, ◌++◌, map, Option, Some, None, unwrap_or, codes, bytes_eq, if◌then◌else◌, option_to_list, ◌==◌}
 use Rattle.std.specs.List.{flat_map, list_any, position}
 use Rattle.cube_val.specs.declared.val.ColType.{ColType}
@@ -28,9 +29,15 @@ use Rattle.cube_desc.specs.Groups.{groups_of, masks_of}
 
 -- ---- tables and columns
 
--- the type that a text is
+-- the type that a word is, if it is one
+abbrev pub type_of_word : List ℕ → Option ColType
+type_of_word s =
+    if bytes_eq s (codes "int") then Some ty.Int else (if bytes_eq s (codes "decimal") then Some ty.Decimal
+    else (if bytes_eq s (codes "text") then Some ty.Text else (if bytes_eq s (codes "date") then Some ty.Date else None)))
+
+-- .. Date where it is none
 abbrev pub type_named : List ℕ → ColType
-type_named s = if bytes_eq s (codes "int") then ty.Int else (if bytes_eq s (codes "decimal") then ty.Decimal else (if bytes_eq s (codes "text") then ty.Text else ty.Date))
+type_named s = unwrap_or (type_of_word s) ty.Date
 
 abbrev pub column_of : RawColumn → ColDesc
 column_of c = record { name = c.name.text; ty = type_named c.kind.text }
@@ -82,10 +89,16 @@ derived_of r = flat_map (dimension_derived r) r.dimensions
 
 -- ---- measures
 
+-- the form that a function's word is, if it is one
+abbrev pub form_of_word : List ℕ → Option MeasureForm
+form_of_word s =
+    if bytes_eq s (codes "COUNT") then Some form.Count else (if bytes_eq s (codes "SUM") then Some form.Sum
+    else (if bytes_eq s (codes "MIN") then Some form.Min else (if bytes_eq s (codes "MAX") then Some form.Max
+    else (if bytes_eq s (codes "COUNT_DISTINCT") then Some form.Distinct else None))))
+
+-- .. Distinct where it is none
 abbrev pub form_named : List ℕ → MeasureForm
-form_named s =
-    if bytes_eq s (codes "COUNT") then form.Count else (if bytes_eq s (codes "SUM") then form.Sum
-    else (if bytes_eq s (codes "MIN") then form.Min else (if bytes_eq s (codes "MAX") then form.Max else form.Distinct)))
+form_named s = unwrap_or (form_of_word s) form.Distinct
 
 abbrev pub measured_column : RawDesc → RawMeasure → Option ℕ
 measured_column r m = if takes_column m then Some (column_place (fact_columns r) m.function.parameter.value.text) else None

@@ -2,6 +2,7 @@
 use Rattle.std.specs.Prelude.{◌≡◌, ◌≤◌, ◌<◌, ◌⊎◌, ⊤, ℕ, suc, List, [], ◌++◌, map, Option, Some, None, option_map, option_to_list, length, slice_get, All, Contains}
 use Rattle.std.specs.List.{flat_map}
 use Rattle.agg_group.specs.Built.{built_masks}
+use Rattle.agg_group.specs.Limits.{most_dimensions, most_cuboids}
 use Rattle.cube_val.specs.declared.val.ColType.{ColType}
 use Rattle.cube_val.specs.declared.val.ColType.TheVariants as ty
 use Rattle.cube_val.specs.declared.form.ColDesc.{ColDesc}
@@ -86,11 +87,11 @@ pub record IsSound (c : Cube) : Type 0 where
   pub masks : c.masks ≡ built_masks (length c.rowkey) c.groups
   -- how many there are
   pub some_dimensions : 0 < length c.rowkey
-  pub few_dimensions : length c.rowkey ≤ 20
+  pub few_dimensions : length c.rowkey ≤ most_dimensions
   pub few_lookups : length c.plan.joins ≤ 8
   pub few_measures : length c.measures ≤ 16
   pub few_groups : length c.groups ≤ 8
-  pub few_masks : length c.masks ≤ 512
+  pub few_masks : length c.masks ≤ most_cuboids
 
 -- the cube that bytes describe is sound
 abbrev pub DescriptorsAreSound : Type 0

@@ -2,6 +2,7 @@
 
 ghost use Rattle.std.specs.Prelude.{◌≡◌, ◌<◌, ◌≤◌, ◌∷◌, ◌++◌, ℕ, List, [], OnOk, map, length, IfOk, IfSome, Option, None, Some, Err, MatchOption, unwrap_or, bytes_eq, false, true};
 ghost use Rattle.std.specs.List.{flat_map, list_all, position};
+ghost use Rattle.agg_group.specs.Limits.{most_dimensions};
 ghost use Rattle.agg_group.specs.Rules.{lists_of};
 ghost use Rattle.desc_checks.specs.Firsts.{first};
 ghost use Rattle.cube_desc.specs.Groups.{dimension_number, dimensions_of, rules_of, are_dimensions, has_dimensions, is_group, bad_group, bad_groups, groups_of, masks_of, too_many_cuboids};
@@ -46,7 +47,7 @@ fn dimension_number(rowkey: &[RawName], text: &RawName) -> Option<usize>
 
 /// The number of the text's dimension, or 0 where it has none.
 fn number_or_0(rowkey: &[RawName], text: &RawName) -> u32
-    requires { length rowkey.now ≤ 20 }
+    requires { length rowkey.now ≤ most_dimensions }
     ensures { result ≡ unwrap_or (dimension_number rowkey.now text.now) 0 }
 {
     match dimension_number(rowkey, text) {
@@ -84,7 +85,7 @@ fn dimensions_of(
     rowkey: &[RawName],
     texts: &[RawName],
 ) -> Result<DimList, AllocError>
-    requires { length rowkey.now ≤ 20 }
+    requires { length rowkey.now ≤ most_dimensions }
     ensures { IfOk result (λ v. v.items ≡ dimensions_of rowkey.now texts.now) }
 {
     let mut numbers = DimList::new(alloc);
@@ -99,7 +100,7 @@ fn lists_of(
     rowkey: &[RawName],
     lists: &[Items<RawName>],
 ) -> Result<Vec<DimList>, AllocError>
-    requires { length rowkey.now ≤ 20 }
+    requires { length rowkey.now ≤ most_dimensions }
     ensures { IfOk result (λ v. lists_of v.items ≡ map (dimensions_of rowkey.now) lists.now) }
 {
     let mut numbers = Vec::new(alloc);
@@ -116,7 +117,7 @@ fn group_of(
     group: &RawGroup,
 ) -> Result<Option<Group>, AllocError>
     requires some { 0 < length rowkey.now }
-    requires few { length rowkey.now ≤ 20 }
+    requires few { length rowkey.now ≤ most_dimensions }
     ensures { IfOk result (λ o. MatchOption o (is_group rowkey.now group.now ≡ false)
         (λ g. (is_group rowkey.now group.now ≡ true) × (g ≡ rules_of rowkey.now group.now))) }
 {
@@ -151,7 +152,7 @@ fn add_group(groups: &mut Vec<Group>, group: Group) -> Result<(), AllocError>
 /// The groups, with numbers for their dimensions.
 pub(crate) fn groups_of(alloc: Global, raw: &RawDesc) -> Result<Vec<Group>, GroupStop>
     requires some { 0 < length raw.now.rowkey.items }
-    requires few { length raw.now.rowkey.items ≤ 20 }
+    requires few { length raw.now.rowkey.items ≤ most_dimensions }
     ensures groups { IfOk result (λ v. v.items ≡ groups_of raw.now) }
     ensures none_bad { IfOk result (λ v. first (bad_groups raw.now) ≡ None) }
     ensures bad { (p : List ℕ) → result ≡ Err (GroupStop.At p) → first (bad_groups raw.now) ≡ Some p }
@@ -175,7 +176,7 @@ pub(crate) fn masks_of(
     groups: &[Group],
 ) -> Result<Option<Vec<Mask>>, AllocError>
     requires some { 0 < length raw.now.rowkey.items }
-    requires few { length raw.now.rowkey.items ≤ 20 }
+    requires few { length raw.now.rowkey.items ≤ most_dimensions }
     requires groups { groups.now ≡ groups_of raw.now }
     ensures { IfOk result (λ o. MatchOption o (first (too_many_cuboids raw.now) ≡ Some raw.now.groups.place)
         (λ v. (first (too_many_cuboids raw.now) ≡ None) × (v.items ≡ masks_of raw.now))) }

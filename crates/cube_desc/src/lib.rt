@@ -17,6 +17,7 @@
 #![tactic(auto)]
 
 mod desc;
+pub mod flat_row;
 mod groups;
 mod laws;
 mod read;
@@ -26,6 +27,3 @@ pub use desc::{CubeDesc, CubeParts, DerivedDesc, MeasureDesc, TableDesc};
 pub use desc_checks::{DescFault, DescKind};
 pub use laws::descriptors_are_sound;
 pub use read::{DescRefusal, read_desc};
-
-#[cfg(test)]
-mod tests;

@@ -1,4 +1,5 @@
 pub mod Laws
+pub mod Limits
 pub mod Numbers
 pub mod Order
 pub mod OrderLaws

@@ -40,9 +40,6 @@ pub use laws::{order_is_total, printed_values_are_read, row_order_is_total, text
 pub use name::NameText;
 pub use number::decimal_text;
 pub use order::cmp;
-pub use rows::{Row, Table};
+pub use rows::{ROW_LIMIT, Row, Table};
 pub use text::{TEXT_MAX, TextVal};
 pub use val::{ColType, ReadVal, Val, read_val, val_text};
-
-#[cfg(test)]
-mod tests;

@@ -6,6 +6,9 @@ use crate::val::Val;
 use std::alloc::{AllocError, Global};
 use std::marker::Model;
 
+/// The most rows of a table.
+pub const ROW_LIMIT: u32 = 200_000;
+
 /// A list of values.
 #[derive(Debug, Drop)]
 pub struct Row {

@@ -34,8 +34,3 @@ pub use plain::run_plain;
 pub use rows::kind_text;
 pub use step::run_step_file;
 pub use step_examples::worked_steps;
-
-#[cfg(test)]
-mod step_tests;
-#[cfg(test)]
-mod tests;

@@ -14,6 +14,3 @@ mod words;
 pub use laws::whole_runs_rest;
 pub use run_refusal::BAD_SCRIPT;
 pub use top::{Ran, run};
-
-#[cfg(test)]
-mod tests;

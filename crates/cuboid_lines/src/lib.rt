@@ -11,6 +11,3 @@ mod lines;
 mod names;
 
 pub use lines::cuboids_text;
-
-#[cfg(test)]
-mod tests;

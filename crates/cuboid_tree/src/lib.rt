@@ -10,6 +10,3 @@ mod tree;
 
 pub use examples::worked_examples;
 pub use tree::SpanTree;
-
-#[cfg(test)]
-mod tests;

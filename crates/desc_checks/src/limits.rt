@@ -8,6 +8,7 @@ ghost use Rattle.desc_checks.specs.Firsts.{first, unless};
 ghost use Rattle.desc_checks.specs.Limits.{is_some_up_to, table_too_many, too_many};
 
 use crate::check::{Check, first_in, or_first, place_unless};
+use agg_group::MOST_DIMENSIONS;
 use descriptor_json::{JsonPointer, RawDesc, RawTable};
 
 /// The most columns of a table.
@@ -17,7 +18,7 @@ const MOST_LOOKUPS: usize = 8;
 /// The most measures.
 const MOST_MEASURES: usize = 16;
 /// The most columns of a rowkey.
-const MOST_ROWKEY: usize = 20;
+const MOST_ROWKEY: usize = MOST_DIMENSIONS as usize;
 /// The most aggregation groups.
 const MOST_GROUPS: usize = 8;
 

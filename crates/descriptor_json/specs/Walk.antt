@@ -15,6 +15,9 @@ use Rattle.descriptor_json.specs.declared.raw.RawMeasure.{RawMeasure}
 use Rattle.descriptor_json.specs.declared.raw.RawRule.{RawRule}
 use Rattle.descriptor_json.specs.declared.raw.RawGroup.{RawGroup}
 use Rattle.descriptor_json.specs.declared.raw.RawDesc.{RawDesc}
+use Rattle.descriptor_json.specs.declared.whole.RawTables.{RawTables}
+use Rattle.descriptor_json.specs.declared.whole.RawColumns.{RawColumns}
+use Rattle.descriptor_json.specs.declared.whole.RawGroups.{RawGroups}
 
 abbrev pub column_at : Reader RawColumn
 column_at p d = object_at p d
@@ -98,26 +101,44 @@ group_at p d = object_at p d
     after (member_or rule_at no_rule (codes "select_rule") p d) (λ rule.
     Ok (record { place = p; includes = includes; rule = rule }))))
 
--- the whole descriptor, at the place of the whole text
-abbrev pub desc_at : Reader RawDesc
-desc_at p d = object_at p d
-    (after (member_at name_at (codes "name") p d) (λ name.
+-- the cube's name, its tables, and which of them are the fact table and lookups
+abbrev pub tables_at : Reader RawTables
+tables_at p d =
+    after (member_at name_at (codes "name") p d) (λ name.
     after (member_at (list_at table_at) (codes "tables") p d) (λ tables.
     after (member_at name_at (codes "fact_table") p d) (λ fact_table.
     after (optional_at lookup_at (codes "lookups") p d) (λ lookups.
+    Ok (record { name = name; tables = tables; fact_table = fact_table; lookups = lookups })))))
+
+-- the columns that it counts by, and what it measures
+abbrev pub columns_at : Reader RawColumns
+columns_at p d =
     after (member_at name_at (codes "partition_date_column") p d) (λ partition.
     after (member_at (list_at dimension_at) (codes "dimensions") p d) (λ dimensions.
     after (member_at (placed_at measure_at) (codes "measures") p d) (λ measures.
+    Ok (record { partition = partition; dimensions = dimensions; measures = measures }))))
+
+-- its rowkey, and its aggregation groups
+abbrev pub groups_at : Reader RawGroups
+groups_at p d =
     after (member_at (placed_at name_at) (codes "rowkey") p d) (λ rowkey.
     after (optional_at group_at (codes "aggregation_groups") p d) (λ groups.
+    Ok (record { rowkey = rowkey; groups = groups })))
+
+-- the whole descriptor, at the place of the whole text
+abbrev pub desc_at : Reader RawDesc
+desc_at p d = object_at p d
+    (after (tables_at p d) (λ of_tables.
+    after (columns_at p d) (λ of_columns.
+    after (groups_at p d) (λ of_groups.
     Ok (record {
-      name = name;
-      tables = tables;
-      fact_table = fact_table;
-      lookups = lookups;
-      partition = partition;
-      dimensions = dimensions;
-      measures = measures;
-      rowkey = rowkey;
-      groups = groups;
-    })))))))))))
+      name = of_tables.name;
+      tables = of_tables.tables;
+      fact_table = of_tables.fact_table;
+      lookups = of_tables.lookups;
+      partition = of_columns.partition;
+      dimensions = of_columns.dimensions;
+      measures = of_columns.measures;
+      rowkey = of_groups.rowkey;
+      groups = of_groups.groups;
+    })))))

@@ -18,6 +18,7 @@ mod place;
 mod raw;
 mod reading;
 mod walk;
+mod whole;
 
 pub use examples::worked_examples;
 pub use parse::{ShapeFault, read_raw};

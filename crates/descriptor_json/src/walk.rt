@@ -1,16 +1,16 @@
-// The walk over a descriptor, one line a key.
+// The walk over the parts of a descriptor, one line a key.
 
 ghost use Rattle.std.specs.Prelude.{◌≡◌, ℕ, List, [], codes};
 ghost use Rattle.serde_json.specs.Data.{Data};
 ghost use Rattle.serde_json.specs.View.{view};
-ghost use Rattle.descriptor_json.specs.Readings.{Reading, optional_at};
+ghost use Rattle.descriptor_json.specs.Readings.{Reading};
 ghost use Rattle.descriptor_json.specs.Tells.{Tells};
-ghost use Rattle.descriptor_json.specs.Walk.{column_at, table_at, join_at, lookup_at, dimension_at, dimension_with, parameter_at, function_at, measure_at, rule_at, group_at, desc_at};
+ghost use Rattle.descriptor_json.specs.Walk.{column_at, table_at, join_at, lookup_at, dimension_at, dimension_with, parameter_at, function_at, measure_at, rule_at, group_at};
 
 use crate::place::JsonPointer;
 use crate::raw::{
-    RawColumn, RawDesc, RawDimension, RawFunction, RawGroup, RawJoin, RawList, RawLookup,
-    RawMeasure, RawNamed, RawParameter, RawRule, RawTable,
+    RawColumn, RawDimension, RawFunction, RawGroup, RawJoin, RawLookup, RawMeasure, RawNamed,
+    RawParameter, RawRule, RawTable,
 };
 use crate::reading::{Shaped, Stop, read_member, read_or};
 use cube_val::Items;
@@ -199,52 +199,6 @@ impl Shaped for RawGroup {
             place,
             includes,
             rule,
-        })
-    }
-}
-
-/// The list at a key that may be absent, with its place.
-fn read_optional<T: Shaped + Drop>(
-    alloc: Global,
-    value: &Value,
-    place: &JsonPointer,
-    key: &str,
-) -> Result<RawList<T>, Stop>
-    ensures { Tells result (optional_at T.shape key.now place.now (view value.now)) }
-{
-    let absent = RawList {
-        place: place.key(alloc, key)?,
-        items: Items::new(alloc),
-    };
-    read_or(alloc, value, place, key, absent)
-}
-
-impl Shaped for RawDesc {
-    ghost shape = { desc_at };
-
-    fn read(alloc: Global, value: &Value, place: JsonPointer) -> Result<RawDesc, Stop> {
-        if !value.is_object() {
-            return Err(Stop::At(place));
-        }
-        let name = read_member(alloc, value, &place, "name")?;
-        let tables = read_member(alloc, value, &place, "tables")?;
-        let fact_table = read_member(alloc, value, &place, "fact_table")?;
-        let lookups = read_optional(alloc, value, &place, "lookups")?;
-        let partition = read_member(alloc, value, &place, "partition_date_column")?;
-        let dimensions = read_member(alloc, value, &place, "dimensions")?;
-        let measures = read_member(alloc, value, &place, "measures")?;
-        let rowkey = read_member(alloc, value, &place, "rowkey")?;
-        let groups = read_optional(alloc, value, &place, "aggregation_groups")?;
-        Ok(RawDesc {
-            name,
-            tables,
-            fact_table,
-            lookups,
-            partition,
-            dimensions,
-            measures,
-            rowkey,
-            groups,
         })
     }
 }

@@ -24,6 +24,3 @@ pub use dict::Dict;
 pub use examples::worked_examples;
 pub use laws::{dictionaries_are_distinct_values, numbers_keep_order};
 pub use lists::{DictSet, Remap};
-
-#[cfg(test)]
-mod tests;

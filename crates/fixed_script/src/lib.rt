@@ -9,6 +9,3 @@ mod script;
 mod session;
 
 pub use script::{FixedScriptRefusal, read_fixed_script};
-
-#[cfg(test)]
-mod tests;

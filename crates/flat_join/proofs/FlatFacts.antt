@@ -14,9 +14,9 @@ use Rattle.cube_desc.specs.Cube.{Cube}
 use Rattle.cube_desc.specs.Forms.{cols_of, form_of, primary_of}
 use Rattle.cube_desc.specs.Sound.{IsSound}
 use Rattle.cube_desc.specs.declared.desc.TableDesc.{TableDesc}
-use Rattle.joined_rows.proofs.FitFacts.{fitting_length}
-use Rattle.joined_rows.specs.Fits.{IsTable}
-use Rattle.joined_rows.specs.Joins.{fact_of, joined_by, lookups_of, matches_of, wide_row, wide_value}
+use Rattle.flat_join.proofs.FitFacts.{fitting_length}
+use Rattle.flat_join.specs.Fits.{IsTable}
+use Rattle.flat_join.specs.Joins.{fact_of, joined_by, lookups_of, matches_of, wide_row, wide_value}
 use Rattle.table_reader.specs.Keys.{HasDistinctKeys}
 use Rattle.flat_join.proofs.ServeFacts.{found_in-is}
 use Rattle.flat_join.specs.Flat.{AreTablesOf, flat_of, without_derived}

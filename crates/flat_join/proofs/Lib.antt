@@ -1,2 +1,4 @@
 pub mod FlatFacts
 pub mod ServeFacts
+pub mod FitFacts
+pub mod JoinFacts

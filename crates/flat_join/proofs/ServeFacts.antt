@@ -14,7 +14,7 @@ use Rattle.cube_val.specs.Order.{row_cmp}
 use Rattle.cube_val.specs.declared.form.JoinStep.{JoinStep}
 use Rattle.cube_val.specs.declared.val.Val.{Val}
 use Rattle.cube_val.specs.declared.val.Val.TheVariants.{Null}
-use Rattle.joined_rows.specs.Joins.{is_match, matches_of}
+use Rattle.flat_join.specs.Joins.{is_match, matches_of}
 use Rattle.lookup_snap.specs.Snaps.{has_key, value_in, values_for}
 use Rattle.table_reader.specs.Keys.{HasDistinctKeys, has_null, key_of, val_at}
 use Rattle.table_reader.proofs.RowFacts.{zip_push}

@@ -3,8 +3,8 @@ use Rattle.std.specs.Prelude.{ℕ, List, [], ◌∷◌, None, true, false, codes
 use Rattle.cube_val.specs.declared.val.ColType.TheVariants as ty
 use Rattle.cube_val.specs.declared.val.Val.{Val}
 use Rattle.cube_val.specs.declared.val.Val.TheVariants.{Int}
-use Rattle.joined_rows.specs.Examples.{plan_of, sale, sellers}
-use Rattle.joined_rows.specs.Joins.{joined}
+use Rattle.flat_join.specs.JoinExamples.{plan_of, sale, sellers}
+use Rattle.flat_join.specs.Joins.{joined}
 use Rattle.plain_answer.specs.declared.ask.AggKind.TheVariants as kind
 use Rattle.plain_answer.specs.declared.ask.Ask.{Ask}
 use Rattle.plain_answer.specs.declared.cond.Cond.TheVariants as cond

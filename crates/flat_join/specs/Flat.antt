@@ -4,8 +4,8 @@ use Rattle.range_list.specs.Ranges.{Interval}
 use Rattle.cube_val.specs.declared.val.Val.{Val}
 use Rattle.cube_desc.specs.Cube.{Cube}
 use Rattle.cube_desc.specs.Forms.{form_of}
-use Rattle.joined_rows.specs.Fits.{IsTable}
-use Rattle.joined_rows.specs.Joins.{joined}
+use Rattle.flat_join.specs.Fits.{IsTable}
+use Rattle.flat_join.specs.Joins.{joined}
 
 -- a table for each table of the cube, in their order, each of its form
 pub record AreTablesOf (c : Cube) (tables : List (List (List Val))) : Type 0 where

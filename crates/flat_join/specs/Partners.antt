@@ -3,7 +3,7 @@ use Rattle.std.specs.Prelude.{◌≡◌, List, Option, find, map, zip}
 use Rattle.std.specs.List.{AllZip}
 use Rattle.cube_val.specs.declared.form.JoinStep.{JoinStep}
 use Rattle.cube_val.specs.declared.val.Val.{Val}
-use Rattle.joined_rows.specs.Joins.{is_match}
+use Rattle.flat_join.specs.Joins.{is_match}
 use Rattle.lookup_snap.specs.Snaps.{value_in}
 use Rattle.table_reader.specs.Keys.{key_of}
 

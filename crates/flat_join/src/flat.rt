@@ -2,7 +2,7 @@
 
 ghost use Rattle.std.specs.Prelude.{◌≡◌, ◌++◌, ◌∷◌, [], IfOk, OnOk, if◌then◌else◌, length};
 ghost use Rattle.cube_desc.specs.Sound.{IsSound};
-ghost use Rattle.joined_rows.specs.Joins.{day_in, is_joined, is_within, joined_by, wide_row};
+ghost use Rattle.flat_join.specs.Joins.{day_in, is_joined, is_within, joined_by, wide_row};
 ghost use Rattle.flat_join.specs.Flat.{AreTablesOf, flat_of, without_derived};
 ghost use Rattle.flat_join.specs.Partners.{found_in};
 

@@ -1,7 +1,7 @@
 // What a fact row matches in the lookups.
 
 ghost use Rattle.std.specs.Prelude.{◌≡◌, ◌||◌, ◌++◌, ◌∷◌, [], IfOk, OnOk, is_some, length, not, option_copied};
-ghost use Rattle.joined_rows.specs.Joins.{has_inner_matches};
+ghost use Rattle.flat_join.specs.Joins.{has_inner_matches};
 ghost use Rattle.flat_join.specs.Partners.{found_in};
 ghost use Rattle.lookup_snap.specs.Snaps.{value_in};
 ghost use Rattle.table_reader.specs.Keys.{key_of, val_at};

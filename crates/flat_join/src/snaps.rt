@@ -4,7 +4,7 @@ ghost use Rattle.std.specs.Prelude.{◌≡◌, ◌<◌, List, All, IfOk, find, l
 ghost use Rattle.std.specs.List.{range_with_len};
 ghost use Rattle.cube_val.specs.declared.val.Val.{Val};
 ghost use Rattle.cube_desc.specs.Sound.{IsSound};
-ghost use Rattle.joined_rows.specs.Joins.{is_match, lookups_of};
+ghost use Rattle.flat_join.specs.Joins.{is_match, lookups_of};
 ghost use Rattle.lookup_snap.specs.Snaps.{value_in};
 ghost use Rattle.flat_join.specs.Flat.{AreTablesOf};
 ghost use Rattle.flat_join.specs.Partners.{AreServed};

@@ -2,7 +2,7 @@
 
 ghost use Rattle.std.specs.Prelude.{◌≡◌, ◌++◌, ◌∷◌, [], IfOk, OnOk, List, Option, Some, option_copied, slice_get};
 ghost use Rattle.cube_val.specs.declared.val.Val.{Val};
-ghost use Rattle.joined_rows.specs.Joins.{part_value, wide_row, wide_value};
+ghost use Rattle.flat_join.specs.Joins.{part_value, wide_row, wide_value};
 
 use crate::partner::{Partner, value_at};
 use cube_val::{Row, Val, WideCol};

@@ -12,6 +12,3 @@ mod part;
 mod snap;
 
 pub use snap::LookupSnap;
-
-#[cfg(test)]
-mod tests;

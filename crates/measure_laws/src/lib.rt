@@ -25,6 +25,3 @@ pub use max::Max;
 pub use measure::{Measure, MeasureForm};
 pub use min::Min;
 pub use sum::Sum;
-
-#[cfg(test)]
-mod tests;

@@ -43,6 +43,3 @@ pub use projections::aggregate;
 pub use rows::FlatRows;
 pub use terms::{GroupTerms, Terms};
 pub use truth::Truth;
-
-#[cfg(test)]
-mod tests;

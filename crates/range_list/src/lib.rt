@@ -21,6 +21,3 @@ pub use cover::Cover;
 pub use examples::worked_examples;
 pub use list::RangeList;
 pub use range::Range;
-
-#[cfg(test)]
-mod tests;

@@ -16,6 +16,3 @@ mod laws;
 pub use fault::{InputFault, InputRefusal};
 pub use inputs::{FixedInputs, LoadedTable, read_inputs};
 pub use laws::files_give_one_outcome;
-
-#[cfg(test)]
-mod tests;

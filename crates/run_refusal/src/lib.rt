@@ -6,6 +6,3 @@
 mod refusal;
 
 pub use refusal::{BAD_SCRIPT, refuse_inputs};
-
-#[cfg(test)]
-mod tests;

@@ -18,6 +18,3 @@ pub use fault::{LineRefusal, ScriptFault, ScriptKind};
 pub use instruction::Instruction;
 pub use line::{Counts, Said, read_line};
 pub use word::CommandWord;
-
-#[cfg(test)]
-mod tests;

@@ -25,6 +25,3 @@ pub use path::PathText;
 pub use put::{put_block, put_end};
 pub use run_history::{Control, Refused};
 pub use verb::{Line, Script, Verb};
-
-#[cfg(test)]
-mod tests;

@@ -7,8 +7,8 @@
 #[cfg(test)]
 mod tests;
 
-use sql_reader::{SqlKind, SqlRefusal, read_sql};
-use std::alloc::Global;
+use sql_reader::{SqlFault, SqlKind, SqlRefusal, read_sql};
+use std::alloc::{AllocError, Global};
 use std::io;
 use std::io::{BufRead, BufReader, BufWriter, Write};
 
@@ -30,12 +30,24 @@ fn text_of(line: &[u8]) -> &[u8] {
     }
 }
 
-fn answer<W: Write>(alloc: Global, text: &[u8], out: &mut W) -> io::Result<()> {
-    match read_sql(alloc, text) {
-        Ok(_) => writeln!(out, "query"),
-        Err(SqlRefusal::Fault(fault)) => writeln!(out, "{} {}", name_of(fault.kind), fault.place),
-        Err(SqlRefusal::Memory) => Err(io::Error::from(io::ErrorKind::OutOfMemory)),
+// The fault of a text, or none where it is a query; without the query itself.
+fn first_fault<T: Drop>(read: Result<T, SqlRefusal>) -> Result<Option<SqlFault>, AllocError> {
+    match read {
+        Ok(_) => Ok(None),
+        Err(SqlRefusal::Fault(fault)) => Ok(Some(fault)),
+        Err(SqlRefusal::Memory) => Err(AllocError),
     }
+}
+
+fn put_answer<W: Write>(fault: Option<SqlFault>, out: &mut W) -> io::Result<()> {
+    match fault {
+        None => writeln!(out, "query"),
+        Some(fault) => writeln!(out, "{} {}", name_of(fault.kind), fault.place),
+    }
+}
+
+fn answer<W: Write>(alloc: Global, text: &[u8], out: &mut W) -> io::Result<()> {
+    put_answer(first_fault(read_sql(alloc, text))?, out)
 }
 
 fn main(rt: HostRuntime) -> io::Result<()> {

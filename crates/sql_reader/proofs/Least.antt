@@ -1,5 +1,5 @@
 -- The fault with the least place, from the tokens of the text and where their reader stopped; and that a text has one answer.
-use Rattle.std.proofs.Common.{◌≡◌, ℕ, suc, ◌+◌, ◌-◌, ◌≤◌, false, List, [], ◌∷◌, ◌++◌, length, Option, Some, None, refl, sym, ap, subst, ◌∙◌, append_assoc, append-nil, arith, inl, inr, ◌⊎◌, nat_lt, slice_get}
+use Rattle.std.proofs.Common.{◌≡◌, ℕ, suc, ◌+◌, ◌-◌, ◌≤◌, false, List, [], ◌∷◌, ◌++◌, length, Option, Some, None, Result, Ok, Err, IfOk, refl, sym, ap, subst, ◌∙◌, append_assoc, append-nil, arith, inl, inr, ◌⊎◌, nat_lt, slice_get}
 use Rattle.std.proofs.lemmas.Bool.{le-ltb}
 use Rattle.std.proofs.lemmas.List.{length-append}
 use Rattle.sql_tokens.specs.declared.fault.SqlFault.{SqlFault}
@@ -11,12 +11,16 @@ use Rattle.sql_tokens.proofs.Cutting.{tokens_are_unique}
 use Rattle.sql_reader.specs.declared.tree.Query.{Query}
 use Rattle.sql_reader.specs.declared.stop.Stop.{Stop}
 use Rattle.sql_reader.specs.declared.stop.Stop.TheVariants.{Unexpected, Barred}
+use Rattle.sql_reader.specs.declared.stop.ReadError.{ReadError}
+use Rattle.sql_reader.specs.declared.stop.ReadError.TheVariants as errors
+use Rattle.sql_reader.specs.declared.sql.SqlRefusal.TheVariants as refusals
 use Rattle.sql_reader.specs.declared.stop.Bar.{Bar}
 use Rattle.sql_reader.specs.declared.stop.Bar.TheVariants as bars
 use Rattle.sql_reader.specs.Kinds.{bar_of}
+use Rattle.sql_reader.specs.Readers.{Gives}
 use Rattle.sql_reader.specs.Whole.{IsQuery, BeginsQuery, BeginsWithin, IsUnexpected, IsBarred, IsOfKind, IsFirstStop}
-use Rattle.sql_reader.specs.Places.{place_left, tokens_left, kind_of_stop, fault_from, fault_at}
-use Rattle.sql_reader.specs.Sql.{most_open, most_bytes, IsSql, IsWhy, IsLeastFault}
+use Rattle.sql_reader.specs.Places.{answer_of, place_left, tokens_left, kind_of_stop, fault_from, fault_at}
+use Rattle.sql_reader.specs.Sql.{most_open, most_bytes, GivesSql, IsSql, IsWhy, IsLeastFault}
 use Rattle.sql_reader.specs.Laws.{OneQuery, OneFault, NotBoth}
 use Rattle.sql_reader.proofs.Sets.{split, apart_right}
 use Rattle.sql_reader.proofs.Levels.{d_query}
@@ -187,6 +191,32 @@ least_one text f g h k =
     let same = tokens_are_unique text h.tokens k.tokens h.bad k.bad h.cut k.cut in
     let parts : h.front ++ h.rest ≡ k.front ++ k.rest = sym h.parts ∙ same.0 ∙ k.parts in
     one_place f g h.front h.rest k.front k.rest k.bad (length text) parts (subst (λ (w : Option SqlFault). IsWhy f h.front h.rest w (length text)) same.1 h.why) k.why h.before k.before
+
+-- what is answered where the tokens were read
+abbrev same_query : Query → Query
+same_query q = q
+
+pub answer_found : (text : List ℕ) (ts : List Token) (bad : Option SqlFault) (r : Result Query ReadError) → length text ≤ most_bytes → AreTokens text ts bad → IfOk r (λ q. IsQuery most_open q ts) → IfOk (answer_of r ts bad (length text)) (λ q. IsSql text q)
+answer_found text ts None (Ok q) short cut h = is_sql text ts None q short cut refl h
+answer_found text ts (Some b) (Ok q) short cut h = tt
+answer_found text ts bad (Err errors.Memory) short cut h = tt
+answer_found text ts bad (Err (errors.Stop s)) short cut h = tt
+
+pub answer_only : (text : List ℕ) (ts : List Token) (bad : Option SqlFault) (r : Result Query ReadError) → AreTokens text ts bad → ((q : Query) → IsQuery most_open q ts → Gives same_query r (Ok q)) → (q : Query) → IsSql text q → GivesSql (answer_of r ts bad (length text)) q
+answer_only text ts None (Ok x) cut only q s = let e = only q (spelled_by text ts None q cut s) in cc
+answer_only text ts (Some b) (Ok x) cut only q s = absurd (let e = not_bad text ts (Some b) q cut s in cc)
+answer_only text ts bad (Err errors.Memory) cut only q s = tt
+answer_only text ts bad (Err (errors.Stop f)) cut only q s = absurd (let e = only q (spelled_by text ts bad q cut s) in cc)
+
+pub answer_fault : (text : List ℕ) (ts : List Token) (bad : Option SqlFault) (r : Result Query ReadError) → AreTokens text ts bad → IfOk r (λ q. IsQuery most_open q ts) → ((s : Stop) → r ≡ Err (errors.Stop s) → IsFirstStop most_open ts s) → (f : SqlFault) → answer_of r ts bad (length text) ≡ Err (refusals.Fault f) → IsLeastFault text f
+answer_fault text ts None (Ok q) cut h first f e = absurd cc
+answer_fault text ts (Some b) (Ok q) cut h first f e =
+    let same : b ≡ f = cc in
+    subst (λ (w : SqlFault). IsLeastFault text w) same (bad_behind text ts (Some b) b q cut refl h)
+answer_fault text ts bad (Err errors.Memory) cut h first f e = absurd cc
+answer_fault text ts bad (Err (errors.Stop s)) cut h first f e =
+    let same : fault_at ts bad (length text) s ≡ f = cc in
+    subst (λ (w : SqlFault). IsLeastFault text w) same (least_of text ts bad s cut (first s refl))
 
 pub one_fault : OneFault
 one_fault text f g (inl a) (inl b) = a.1 ∙ sym b.1

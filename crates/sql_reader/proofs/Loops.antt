@@ -59,11 +59,16 @@ many_step first more R p P (t ∷ ts) x after is_there e =
     let enough : read_times (length ts) first p after ≡ read_times (length after) first p after = times_enough first more R p P (length ts) (length after) after (omega arith) (omega arith) in
     rw (is_there, e, enough) refl
 
+-- one more item, read with its mark
+pub goes_on_after : {B C : Type 0} {first more : List Kind} {R : Rule B} {p : Reader B} → Exact first more false R p → (k : Kind) (f : C → B → C) (acc : C) (ts : List Token) (x : B) (after : List Token) (y : Result (C × List Token) Stop) → heads (k ∷ []) ts ≡ true → read_after k p ts ≡ Ok (x, after) → gathered f acc (read_many (k ∷ []) (read_after k p) ts) ≡ y → gathered f (f acc x) (read_many (k ∷ []) (read_after k p) after) ≡ y
+goes_on_after {more = more} {R = R} {p = p} P k f acc ts x after y is_there e h =
+    sym (gathered_more f acc x (read_many (k ∷ []) (read_after k p) after)) ∙ ap (λ w. gathered f acc w) (sym (many_step (k ∷ []) more (k ▹ R) (read_after k p) (of_after k P) ts x after is_there e)) ∙ h
+
 -- one more item, behind its mark
 pub goes_on : {B C : Type 0} {first more : List Kind} {R : Rule B} {p : Reader B} → Exact first more false R p → (k : Kind) (f : C → B → C) (acc : C) (ts : List Token) (t : Token) (u : List Token) (x : B) (after : List Token) (y : Result (C × List Token) Stop) → heads (k ∷ []) ts ≡ true → read_token k ts ≡ Ok (t, u) → p u ≡ Ok (x, after) → gathered f acc (read_many (k ∷ []) (read_after k p) ts) ≡ y → gathered f (f acc x) (read_many (k ∷ []) (read_after k p) after) ≡ y
-goes_on {more = more} {R = R} {p = p} P k f acc ts t u x after y is_there one two h =
+goes_on {p = p} P k f acc ts t u x after y is_there one two h =
     let e : read_after k p ts ≡ Ok (x, after) = rw (one, two) refl in
-    sym (gathered_more f acc x (read_many (k ∷ []) (read_after k p) after)) ∙ ap (λ w. gathered f acc w) (sym (many_step (k ∷ []) more (k ▹ R) (read_after k p) (of_after k P) ts x after is_there e)) ∙ h
+    goes_on_after P k f acc ts x after y is_there e h
 
 -- the item behind the mark isn't there
 pub fails : {B C : Type 0} (p : Reader B) (k : Kind) (f : C → B → C) (acc : C) (ts : List Token) (t : Token) (u : List Token) (e : Stop) (y : Result (C × List Token) Stop) → heads (k ∷ []) ts ≡ true → read_token k ts ≡ Ok (t, u) → p u ≡ Err e → gathered f acc (read_many (k ∷ []) (read_after k p) ts) ≡ y → y ≡ Err e

@@ -1,5 +1,5 @@
 -- The readers of the grammar's rules, each as the code reads.
-use Rattle.std.specs.Prelude.{ℕ, zero, suc, Bool, true, false, List, [], ◌∷◌, length, Option, Err, if◌then◌else◌}
+use Rattle.std.specs.Prelude.{ℕ, zero, suc, Bool, true, false, List, [], ◌∷◌, length, Option, Ok, Err, if◌then◌else◌}
 use Rattle.sql_tokens.specs.declared.kind.Kind.{Kind}
 use Rattle.sql_tokens.specs.declared.kind.Kind.TheVariants as k
 use Rattle.sql_tokens.specs.declared.token.Token.{Token}
@@ -25,7 +25,7 @@ use Rattle.sql_reader.specs.declared.stop.Stop.TheVariants.{Barred}
 use Rattle.sql_reader.specs.declared.stop.Bar.{Bar}
 use Rattle.sql_reader.specs.declared.stop.Bar.TheVariants as bars
 use Rattle.sql_reader.specs.Kinds.{heads, bar_of}
-use Rattle.sql_reader.specs.Readers.{Reader, read_token, read_pair, read_seen, read_choice, read_optional, read_many}
+use Rattle.sql_reader.specs.Readers.{◌>>=◌, Reader, read_token, read_pair, read_seen, read_choice, read_optional, read_many}
 use Rattle.sql_reader.specs.Grammar.{second, front, folded, alone, push, name_of, col_of, counts_rows, counts_distinct, counts_column, agg_of, with_word, column_of, item_of, is_inner, is_left, or_inner, pair_of, join_of, plus_of, minus_of, number_of_signed, text_of, date_of, test_of, compare_of, any_of, none_of, between_of, not_between_of, null_of, cond_of, same_cond, rises, falls, key_of, rows_of, or_none, place_of, query_of}
 
 abbrev pub read_after : {A : Type 0} → Kind → Reader A → Reader A
@@ -33,6 +33,12 @@ read_after k p = read_seen second (read_pair (read_token k) p)
 
 abbrev pub read_before : {A : Type 0} → Reader A → Kind → Reader A
 read_before p k = read_seen front (read_pair p (read_token k))
+
+-- what was read before, and a token behind it
+abbrev pub read_end : {A : Type 0} → A → Kind → Reader A
+read_end x k ts = do
+  y ← read_token k ts
+  Ok (x, y.1)
 
 abbrev pub read_chain : {A B C : Type 0} → (A → C) → (C → B → C) → List Kind → Reader A → Reader B → Reader C
 read_chain g f first p q = read_seen (folded g f) (read_pair p (read_many first q))

@@ -1,11 +1,15 @@
 -- Where the reader of tokens stopped, as a place in the text.
-use Rattle.std.specs.Prelude.{ℕ, ◌-◌, List, length, Option, Some, None, slice_get, option_map, nat_lt, if◌then◌else◌}
+use Rattle.std.specs.Prelude.{ℕ, ◌-◌, List, length, Option, Some, None, Result, Ok, Err, slice_get, option_map, nat_lt, if◌then◌else◌}
 use Rattle.sql_tokens.specs.declared.fault.SqlFault.{SqlFault}
 use Rattle.sql_tokens.specs.declared.fault.SqlKind.{SqlKind}
 use Rattle.sql_tokens.specs.declared.fault.SqlKind.TheVariants as kinds
 use Rattle.sql_tokens.specs.declared.token.Token.{Token}
 use Rattle.sql_reader.specs.declared.stop.Stop.{Stop}
 use Rattle.sql_reader.specs.declared.stop.Stop.TheVariants.{Unexpected, Barred}
+use Rattle.sql_reader.specs.declared.stop.ReadError.{ReadError}
+use Rattle.sql_reader.specs.declared.stop.ReadError.TheVariants as errors
+use Rattle.sql_reader.specs.declared.sql.SqlRefusal.{SqlRefusal}
+use Rattle.sql_reader.specs.declared.sql.SqlRefusal.TheVariants as refusals
 use Rattle.sql_reader.specs.declared.stop.Bar.{Bar}
 use Rattle.sql_reader.specs.declared.stop.Bar.TheVariants as bars
 
@@ -36,3 +40,10 @@ fault_from None None end kind = record { place = end; kind = kinds.Unexpected }
 
 abbrev pub fault_at : List Token → Option SqlFault → ℕ → Stop → SqlFault
 fault_at ts bad end stop = fault_from (place_left ts (tokens_left stop)) bad end (kind_of_stop stop)
+
+-- what is answered where tokens were read so
+abbrev pub answer_of : {A : Type 0} → Result A ReadError → List Token → Option SqlFault → ℕ → Result A SqlRefusal
+answer_of (Ok x) ts None end = Ok x
+answer_of (Ok x) ts (Some b) end = Err (refusals.Fault b)
+answer_of (Err errors.Memory) ts bad end = Err refusals.Memory
+answer_of (Err (errors.Stop stop)) ts bad end = Err (refusals.Fault (fault_at ts bad end stop))

@@ -1,17 +1,39 @@
 // Conditions.
 
-ghost use Rattle.std.specs.Prelude.{◌≡◌, ◌∷◌, [], Ok, Err};
+ghost use Rattle.std.specs.Prelude.{◌≡◌, ◌∷◌, [], IfOk, Ok, Err};
 ghost use Rattle.sql_tokens.specs.declared.kind.Kind.TheVariants as k;
-ghost use Rattle.sql_reader.specs.Readers.{Gives, read_optional};
-ghost use Rattle.sql_reader.specs.Parsers.{read_after, read_conj, read_disj, read_filter, read_neg};
+ghost use Rattle.sql_reader.specs.Readers.{Gives, read_optional, read_seen};
+ghost use Rattle.sql_reader.specs.Parsers.{read_after, read_before, read_conj, read_disj, read_filter, read_neg};
 
 use crate::stop::{Bar, ReadError, Stop};
-use crate::take::{starts, take};
+use crate::take::{ended_by, starts, take};
 use crate::test::basic;
 use crate::tree::SqlCond;
 use sql_tokens::{Kind, Token};
 use sqlite_items::Boxed;
-use std::alloc::Global;
+use std::alloc::{AllocError, Global};
+
+// Two trees, each in a box of its own.
+fn both_boxed<T: Drop>(alloc: Global, left: T, right: T) -> Result<(Boxed<T>, Boxed<T>), AllocError>
+    ensures { IfOk result (λ both. both ≡ (left, right)) }
+{
+    let left = Boxed::new(alloc, left)?;
+    Ok((left, Boxed::new(alloc, right)?))
+}
+
+fn and(alloc: Global, left: SqlCond, right: SqlCond) -> Result<SqlCond, AllocError>
+    ensures { IfOk result (λ cond. cond ≡ SqlCond.And left right) }
+{
+    let (left, right) = both_boxed(alloc, left, right)?;
+    Ok(SqlCond::And(left, right))
+}
+
+fn or(alloc: Global, left: SqlCond, right: SqlCond) -> Result<SqlCond, AllocError>
+    ensures { IfOk result (λ cond. cond ≡ SqlCond.Or left right) }
+{
+    let (left, right) = both_boxed(alloc, left, right)?;
+    Ok(SqlCond::Or(left, right))
+}
 
 /// A condition in front, of which parentheses and NOT may nest `depth` deep.
 #[cycle(cond)]
@@ -21,12 +43,20 @@ fn disj(alloc: Global, depth: usize, tokens: &[Token]) -> Result<(SqlCond, &[Tok
 {
     let (mut all, mut rest) = conj(alloc, depth, tokens)?;
     'ors: while starts(rest, Kind::Or) {
-        let (_, after) = take(rest, Kind::Or)?;
-        let (next, after) = conj(alloc, depth, after)?;
-        all = SqlCond::Or(Boxed::new(alloc, all)?, Boxed::new(alloc, next)?);
+        let (next, after) = or_conj(alloc, depth, rest)?;
+        all = or(alloc, all, next)?;
         rest = after;
     }
     Ok((all, rest))
+}
+
+// What stands behind OR.
+#[cycle(cond)]
+fn or_conj(alloc: Global, depth: usize, tokens: &[Token]) -> Result<(SqlCond, &[Token]), ReadError>
+    ensures { Gives (λ x. (x.0, x.1.now)) result (read_after k.Or (read_conj (read_neg depth)) tokens.now) }
+{
+    let (_, rest) = take(tokens, Kind::Or)?;
+    conj(alloc, depth, rest)
 }
 
 #[cycle(cond)]
@@ -36,12 +66,20 @@ fn conj(alloc: Global, depth: usize, tokens: &[Token]) -> Result<(SqlCond, &[Tok
 {
     let (mut all, mut rest) = neg(alloc, depth, tokens)?;
     'ands: while starts(rest, Kind::And) {
-        let (_, after) = take(rest, Kind::And)?;
-        let (next, after) = neg(alloc, depth, after)?;
-        all = SqlCond::And(Boxed::new(alloc, all)?, Boxed::new(alloc, next)?);
+        let (next, after) = and_neg(alloc, depth, rest)?;
+        all = and(alloc, all, next)?;
         rest = after;
     }
     Ok((all, rest))
+}
+
+// What stands behind AND.
+#[cycle(cond)]
+fn and_neg(alloc: Global, depth: usize, tokens: &[Token]) -> Result<(SqlCond, &[Token]), ReadError>
+    ensures { Gives (λ x. (x.0, x.1.now)) result (read_after k.And (read_neg depth) tokens.now) }
+{
+    let (_, rest) = take(tokens, Kind::And)?;
+    neg(alloc, depth, rest)
 }
 
 #[cycle(cond)]
@@ -58,17 +96,32 @@ fn neg(alloc: Global, depth: usize, tokens: &[Token]) -> Result<(SqlCond, &[Toke
         return basic(alloc, tokens);
     }
     if is_not {
-        let (_, rest) = take(tokens, Kind::Not)?;
-        let (inner, rest) = neg(alloc, depth - 1, rest)?;
-        return Ok((SqlCond::Not(Boxed::new(alloc, inner)?), rest));
+        return not_neg(alloc, depth - 1, tokens);
     }
     if is_open {
-        let (_, rest) = take(tokens, Kind::Open)?;
-        let (inner, rest) = disj(alloc, depth - 1, rest)?;
-        let (_, rest) = take(rest, Kind::Close)?;
-        return Ok((inner, rest));
+        return nested(alloc, depth - 1, tokens);
     }
     basic(alloc, tokens)
+}
+
+// NOT and what stands behind it.
+#[cycle(cond)]
+fn not_neg(alloc: Global, depth: usize, tokens: &[Token]) -> Result<(SqlCond, &[Token]), ReadError>
+    ensures { Gives (λ x. (x.0, x.1.now)) result (read_after k.Not (read_seen SqlCond.Not (read_neg depth)) tokens.now) }
+{
+    let (_, rest) = take(tokens, Kind::Not)?;
+    let (inner, rest) = neg(alloc, depth, rest)?;
+    Ok((SqlCond::Not(Boxed::new(alloc, inner)?), rest))
+}
+
+// A condition in parentheses.
+#[cycle(cond)]
+fn nested(alloc: Global, depth: usize, tokens: &[Token]) -> Result<(SqlCond, &[Token]), ReadError>
+    ensures { Gives (λ x. (x.0, x.1.now)) result (read_after k.Open (read_before (read_disj (read_neg depth)) k.Close) tokens.now) }
+{
+    let (_, rest) = take(tokens, Kind::Open)?;
+    let (inner, rest) = disj(alloc, depth, rest)?;
+    ended_by(inner, rest, Kind::Close)
 }
 
 #[tactic(auto, unfolding(crate::specs::Parsers::read_filter))]

@@ -49,11 +49,12 @@ fn query(alloc: Global, depth: usize, tokens: &[Token]) -> Result<(Query, &[Toke
 /// How deep parentheses and NOT may nest.
 pub const DEPTH: usize = 64;
 
-fn at_end(query: Query, rest: &[Token]) -> Result<Query, ReadError>
-    ensures { Gives (λ x. x) result (ended query rest.now) }
+// What was read, where all tokens are.
+fn at_end<T: Drop>(tree: T, rest: &[Token]) -> Result<T, ReadError>
+    ensures { Gives (λ x. x) result (ended tree rest.now) }
 {
     if rest.is_empty() {
-        Ok(query)
+        Ok(tree)
     } else {
         Err(unexpected(rest))
     }

@@ -3,13 +3,13 @@
 ghost use Rattle.std.specs.Prelude.{◌≡◌, ◌≤◌, ◌<◌, length, IfOk, Ok, Err};
 ghost use Rattle.sql_tokens.specs.declared.fault.SqlFault.{SqlFault};
 ghost use Rattle.sql_reader.specs.declared.tree.Query.{Query};
-ghost use Rattle.sql_reader.specs.Places.{fault_at, kind_of_stop, place_left, tokens_left};
+ghost use Rattle.sql_reader.specs.Places.{answer_of, fault_at, kind_of_stop, place_left, tokens_left};
 ghost use Rattle.sql_reader.specs.Sql.{GivesSql, IsFault, IsLeastFault, IsSql};
 
 use crate::query::read_tokens;
 use crate::stop::{Bar, ReadError, Stop};
 use crate::tree::Query;
-use sql_tokens::{Lexed, SQL_MAX, SqlFault, SqlKind, Token, tokens_of};
+use sql_tokens::{SQL_MAX, SqlFault, SqlKind, Token, tokens_of};
 use std::alloc::{AllocError, Global};
 
 /// Why a text was not read.
@@ -80,6 +80,25 @@ fn fault_of(tokens: &[Token], bad: Option<SqlFault>, end: u32, stop: Stop) -> Sq
     }
 }
 
+// What is answered where tokens were read so, before a byte at which no token starts, or before the end.
+fn answer<T: Drop>(
+    read: Result<T, ReadError>,
+    tokens: &[Token],
+    bad: Option<SqlFault>,
+    end: u32,
+) -> Result<T, SqlRefusal>
+    ensures { result ≡ answer_of read tokens.now bad end }
+{
+    match read {
+        Ok(tree) => match bad {
+            None => Ok(tree),
+            Some(bad) => Err(SqlRefusal::Fault(bad)),
+        },
+        Err(ReadError::Memory) => Err(SqlRefusal::Memory),
+        Err(ReadError::Stop(stop)) => Err(SqlRefusal::Fault(fault_of(tokens, bad, end, stop))),
+    }
+}
+
 // The query that a text spells which isn't too long.
 fn read_short(alloc: Global, text: &[u8]) -> Result<Query, SqlRefusal>
     requires { length text.now ≤ SQL_MAX }
@@ -87,20 +106,10 @@ fn read_short(alloc: Global, text: &[u8]) -> Result<Query, SqlRefusal>
     ensures only { (q : Query) → IsSql text.now q → GivesSql result q }
     ensures fault { (f : SqlFault) → result ≡ Err (SqlRefusal.Fault f) → IsLeastFault text.now f }
 {
-    let Lexed { tokens, fault: bad } = tokens_of(alloc, text)?;
-    match read_tokens(alloc, tokens.as_slice()) {
-        Ok(query) => match bad {
-            None => Ok(query),
-            Some(bad) => Err(SqlRefusal::Fault(bad)),
-        },
-        Err(ReadError::Memory) => Err(SqlRefusal::Memory),
-        Err(ReadError::Stop(stop)) => Err(SqlRefusal::Fault(fault_of(
-            tokens.as_slice(),
-            bad,
-            text.len() as u32,
-            stop,
-        ))),
-    }
+    let lexed = tokens_of(alloc, text)?;
+    let tokens = lexed.tokens.as_slice();
+    let read = read_tokens(alloc, tokens);
+    answer(read, tokens, lexed.fault, text.len() as u32)
 }
 
 /// The query that a text spells. A text that is no query is refused by its first fault: TooLong, else the fault with the least place.

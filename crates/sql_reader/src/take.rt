@@ -3,7 +3,7 @@
 ghost use Rattle.std.specs.Prelude.{◌≡◌, ◌∷◌, false, [], length, Ok, Err};
 ghost use Rattle.sql_reader.specs.Kinds.{heads};
 ghost use Rattle.sql_reader.specs.Readers.{Gives, read_token};
-ghost use Rattle.sql_reader.specs.Parsers.{read_place};
+ghost use Rattle.sql_reader.specs.Parsers.{read_place, read_end};
 
 use crate::stop::{ReadError, Stop};
 use sql_tokens::{Kind, Token};
@@ -44,4 +44,16 @@ pub(crate) fn place(tokens: &[Token], kind: Kind) -> Result<(u32, &[Token]), Rea
 {
     let (token, rest) = take(tokens, kind)?;
     Ok((token.place, rest))
+}
+
+// What was read, where a token of the kind stands behind it.
+pub(crate) fn ended_by<T: Drop>(
+    tree: T,
+    tokens: &[Token],
+    kind: Kind,
+) -> Result<(T, &[Token]), ReadError>
+    ensures { Gives (λ x. (x.0, x.1.now)) result (read_end tree kind tokens.now) }
+{
+    let (_, rest) = take(tokens, kind)?;
+    Ok((tree, rest))
 }

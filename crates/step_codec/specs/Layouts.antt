@@ -4,6 +4,7 @@ use Rattle.std.specs.List.{AllByRecursion, list_any}
 use Rattle.agg_group.specs.declared.mask.Mask.{Mask}
 use Rattle.agg_group.specs.Mask.{mask_at}
 use Rattle.cuboid_tree.specs.Tree.{SpansTree, is_child, is_of_layer, parent_of, places}
+pub use Rattle.cube_val.specs.Limits.{row_limit}
 use Rattle.cube_fields.specs.declared.dicts.DictForm.{DictForm}
 use Rattle.cube_fields.specs.declared.forms.CellForm.{CellForm}
 use Rattle.cube_fields.specs.declared.forms.CellForm.TheVariants as form
@@ -12,10 +13,6 @@ use Rattle.step_codec.specs.declared.layout.DictColumn.{DictColumn}
 use Rattle.step_codec.specs.declared.layout.KeptForm.{KeptForm}
 use Rattle.step_codec.specs.declared.layout.KeptForm.TheVariants as kept
 use Rattle.step_codec.specs.declared.layout.Layout.{Layout}
-
--- the most rows of a table and of a list of flat rows
-abbrev pub row_limit : ℕ
-row_limit = 200_000
 
 -- the most values of a dictionary of several snapshots together
 abbrev pub size_limit : ℕ

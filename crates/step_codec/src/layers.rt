@@ -12,7 +12,7 @@ use agg_group::Mask;
 use byte_frame::{FieldReader, ReadError, Reads, read_counted};
 use cell_store::CellTable;
 use cube_fields::{CellForm, CellTableForm, read_tables};
-use cube_val::Items;
+use cube_val::{Items, ROW_LIMIT};
 use cuboid_tree::SpanTree;
 use std::alloc::{AllocError, Global};
 
@@ -93,7 +93,7 @@ pub fn table_form(
         sizes: Items::from_slice(alloc, keys)?,
         cells: Items::of(cells),
         extremes: Items::from_slice(alloc, layout.extremes.as_slice())?,
-        most: 200_000,
+        most: ROW_LIMIT,
     })
 }
 

@@ -16,8 +16,7 @@ use std::sync::Arc;
 use step_fields::{put_rows, read_rows};
 use table_reader::first_repeated;
 
-/// The most rows of a table and of a list of flat rows.
-pub const ROW_LIMIT: u32 = 200_000;
+pub use cube_val::ROW_LIMIT;
 
 // Whether a row repeats the key of an earlier one.
 fn has_repeat(alloc: Global, key: &[usize], rows: &[Row]) -> Result<bool, AllocError>

@@ -1,18 +1,16 @@
 -- The dictionaries and the aggregates of a cube.
-use Rattle.std.proofs.Common.{◌≡◌, ◌∙◌, ◌+◌, ◌++◌, ◌∷◌, [], ℕ, Bool, cond, List, Option, Some, None, ap, arith, length, length-append, refl, sym, inl, inr, ltb}
-use Rattle.std.specs.Prelude.{filter, map, not, option_to_list, unwrap_or}
-use Rattle.std.specs.List.{cons_option, filter_map, position_or_len, range_with_len}
-use Rattle.std.proofs.lemmas.Bool.{cases_lt, le-ltb, lt-ltb}
-use Rattle.std.proofs.lemmas.List.{map-id}
-use Rattle.std.proofs.lemmas.List.Sums.{prefix_len-le-length}
-use Rattle.std.proofs.lemmas.List.FromFn.{length-range_with_len, map-range_with_len_more}
+use Rattle.std.proofs.Common.{◌≡◌, ◌+◌, ◌∷◌, [], cond, List, arith, length, length-append, refl}
+use Rattle.std.specs.Prelude.{filter, map, not}
+use Rattle.std.specs.List.{cons_option, filter_map, range_with_len}
+use Rattle.std.proofs.lemmas.List.FromFn.{length-range_with_len}
 use Rattle.cube_desc.specs.Cube.{Cube}
 use Rattle.cube_desc.specs.declared.desc.MeasureDesc.{MeasureDesc}
 use Rattle.layer_builder.specs.Base.{count_of_distincts}
 use Rattle.measure_laws.specs.declared.measure.MeasureForm.{MeasureForm}
 use Rattle.measure_laws.specs.declared.measure.MeasureForm.TheVariants as form
 use Rattle.plain_answer.specs.declared.ask.Agg.{Agg}
-use Rattle.step_compute.specs.Columns.{agg_of, dict_places, distinct_by, distinct_place, distinct_places, is_count, kept_aggs, place_of}
+use Rattle.cube_desc.specs.FlatRow.{dict_places, distinct_by, distinct_place, distinct_places, is_count, place_of}
+use Rattle.step_compute.specs.Columns.{agg_of, kept_aggs}
 
 abbrev kept : Cube → List MeasureDesc → List Agg
 kept c ms = map (agg_of c) (filter (λ m. not (is_count m.form)) ms)
@@ -39,27 +37,3 @@ pub places_counted : (c : Cube) → length (dict_places c) ≡ length c.rowkey +
 unfolding distinct_places kept_aggs
 places_counted c =
     omega (arith, length-append (range_with_len 0 (length c.rowkey)) (filter_map (distinct_place c) c.measures), length-range_with_len 0 (length c.rowkey), distincts_counted c c.measures)
-
--- ---- places
-
--- a place that is found, or the length
-pub place_or_len : {X : Type 0} (t : X → Bool) (xs : List X) → unwrap_or (cond (ltb (position_or_len t xs) (length xs)) (Some (position_or_len t xs)) None) (length xs) ≡ position_or_len t xs
-place_or_len t xs = elim (cases_lt (position_or_len t xs) (length xs)) [
-  | inl lt ↦ ap (λ b. unwrap_or (cond b (Some (position_or_len t xs)) None) (length xs)) (lt-ltb (position_or_len t xs) (length xs) lt)
-  | inr le ↦ ap (λ b. unwrap_or (cond b (Some (position_or_len t xs)) None) (length xs)) (le-ltb (position_or_len t xs) (length xs) le) ∙ omega (arith, le, prefix_len-le-length (λ x. not (t x)) xs)
-]
-
--- ---- one more item
-
-pub kept_more : {X Y : Type 0} (h : X → Option Y) (xs : List X) (x : X) → filter_map h (xs ++ x ∷ []) ≡ filter_map h xs ++ option_to_list (h x)
-kept_more {Y = Y} h [] x = by (h x) where
-  by : (o : Option Y) → cons_option o [] ≡ option_to_list o
-  by None = refl
-  by (Some y) = refl
-kept_more {Y = Y} h (z ∷ xs) x = by (h z) (kept_more h xs x) where
-  by : (o : Option Y) → filter_map h (xs ++ x ∷ []) ≡ filter_map h xs ++ option_to_list (h x) → cons_option o (filter_map h (xs ++ x ∷ [])) ≡ cons_option o (filter_map h xs) ++ option_to_list (h x)
-  by None e = e
-  by (Some y) e = ap (λ l. y ∷ l) e
-
-pub range_push : (a n : ℕ) → range_with_len a (n + 1) ≡ range_with_len a n ++ (a + n) ∷ []
-range_push a n = sym (map-id (range_with_len a (n + 1))) ∙ map-range_with_len_more (λ k. k) a n (a + n) refl ∙ ap (λ l. l ++ (a + n) ∷ []) (map-id (range_with_len a n))

@@ -13,7 +13,8 @@ use Rattle.cuboid_tree.specs.Tree.{is_of_layer, parent_of, places}
 use Rattle.dim_dictionary.specs.Dictionaries.{dictionary_of}
 use Rattle.layer_builder.specs.Base.{base_mask, base_rows, form_of_kind, key_width}
 use Rattle.plain_answer.specs.Aggregates.{cell}
-use Rattle.step_compute.specs.Columns.{dict_places, kept_aggs}
+use Rattle.cube_desc.specs.FlatRow.{dict_places}
+use Rattle.step_compute.specs.Columns.{kept_aggs}
 
 -- ---- dictionaries
 

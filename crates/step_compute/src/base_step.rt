@@ -2,7 +2,7 @@
 
 ghost use Rattle.std.specs.Prelude.{◌≡◌, ◌≤◌, IfOk, IsErrOf, length};
 ghost use Rattle.measure_laws.specs.Measures.{most_items};
-ghost use Rattle.step_compute.specs.Columns.{dict_places};
+ghost use Rattle.cube_desc.specs.FlatRow.{dict_places};
 ghost use Rattle.step_compute.specs.Values.{base_value};
 ghost use Rattle.step_compute.specs.Watched.{Looked, SawStop};
 

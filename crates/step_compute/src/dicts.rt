@@ -6,10 +6,10 @@ ghost use Rattle.dim_dictionary.specs.Dictionaries.{dictionary_of};
 ghost use Rattle.step_compute.specs.Values.{dict_value, values_in};
 ghost use Rattle.step_compute.specs.Watched.{Looked, SawStop};
 
-use crate::columns::dict_places;
 use crate::fault::StepFault;
 use crate::watching::look;
 use cube_desc::CubeDesc;
+use cube_desc::flat_row::dict_places;
 use cube_val::{Row, Val};
 use dim_dictionary::{Dict, DictSet};
 use outside::Watch;

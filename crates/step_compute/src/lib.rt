@@ -9,7 +9,7 @@
 //! batch of at most eight cuboids, and before each thousand rows of a column that a dictionary is made of; no contract
 //! counts them.
 //!
-//! The modules: `columns`: which columns have a dictionary and which aggregates are kept; `flat`, `dicts`, `base_step`,
+//! The modules: `columns`: which aggregates are kept; `flat`, `dicts`, `base_step`,
 //! `layer_step`: a step each; `watching`: looks at a watch; `fault`; `examples`: the definitions on a few sales.
 #![tactic(auto)]
 

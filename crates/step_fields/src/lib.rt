@@ -32,6 +32,3 @@ pub use examples::worked_examples;
 pub use laws::fields_are_exact;
 pub use rows::{RowOf, put_row, put_rows, read_rows};
 pub use values::put_val;
-
-#[cfg(test)]
-mod tests;

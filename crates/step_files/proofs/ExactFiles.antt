@@ -10,9 +10,9 @@ use Rattle.sha2.proofs.Facts256.{length-sha256}
 use Rattle.byte_frame.specs.Exact.{Exact, IsBytes}
 use Rattle.byte_frame.specs.Reading.{◌>>=◌, all_of}
 use Rattle.byte_frame.proofs.Exact.{IsBytes-drop, IsBytes-take, all_again, all_found, bind_some}
-use Rattle.sealed_frame.specs.Frames.{Frame, before_digest, frame_text, magic}
-use Rattle.sealed_frame.specs.Reading.{frame_at}
-use Rattle.sealed_frame.proofs.Exact.{frame_again, frame_found}
+use Rattle.byte_frame.specs.Frames.{Frame, before_digest, frame_text, magic}
+use Rattle.byte_frame.specs.FrameReading.{frame_at}
+use Rattle.byte_frame.proofs.ExactFrames.{frame_again, frame_found}
 use Rattle.step_files.specs.Files.{IsProductFile, IsTaskFile, body_in, digest_of, frame_with, no_digest, product_in, task_at, task_text}
 use Rattle.step_files.specs.Tasks.{FitsTask}
 use Rattle.step_files.specs.declared.product.Product.{Product}

@@ -1,7 +1,7 @@
 -- What the readers of files give, once the body of the frame has been taken.
 use Rattle.std.proofs.Common.{◌≡◌, ◌∙◌, ℕ, List, Option, Some, None, ap, refl, sym}
 use Rattle.byte_frame.specs.Reading.{◌>>=◌, all_of}
-use Rattle.sealed_frame.specs.Reading.{frame_at}
+use Rattle.byte_frame.specs.FrameReading.{frame_at}
 use Rattle.step_files.specs.Files.{body_in, body_of, no_digest, product_in, task_at}
 use Rattle.step_files.specs.Products.{product_at}
 use Rattle.step_files.specs.Tasks.{body_at}

@@ -18,7 +18,8 @@ use Rattle.cube_desc.specs.declared.desc.MeasureDesc.{MeasureDesc}
 use Rattle.cube_desc.proofs.SoundFacts.{sound}
 use Rattle.step_codec.specs.Layouts.{IsLayout}
 use Rattle.step_codec.specs.declared.layout.Layout.{Layout}
-use Rattle.step_files.specs.Cubes.{dict_column, dict_places, distinct_place, distinct_places, flat_of, layout_in, layout_of, layout_or}
+use Rattle.cube_desc.specs.FlatRow.{dict_places, distinct_place, distinct_places}
+use Rattle.step_files.specs.Cubes.{dict_column, flat_columns, layout_in, layout_of, layout_or}
 
 -- ---- masks
 
@@ -68,12 +69,12 @@ few_places c (m ∷ ms) = by (distinct_place c m) (few_places c ms) where
   by (Some p) h = omega (arith, h)
   by None h = omega (arith, h)
 
-few_dicts : (c : Cube) → IsSound c → length (map (dict_column (flat_of c)) (dict_places c)) < 2 ^ 32
+few_dicts : (c : Cube) → IsSound c → length (map (dict_column (flat_columns c)) (dict_places c)) < 2 ^ 32
 unfolding distinct_places
 few_dicts c s =
     omega (
       arith,
-      length-map (dict_places c) (dict_column (flat_of c)),
+      length-map (dict_places c) (dict_column (flat_columns c)),
       length-append (range_with_len 0 (length c.rowkey)) (filter_map (distinct_place c) c.measures),
       length-range_with_len 0 (length c.rowkey),
       few_places c c.measures,

@@ -12,7 +12,7 @@ use Rattle.step_codec.specs.declared.layout.Layout.{Layout}
 use Rattle.step_fields.specs.Reading.{range_at, rows_at}
 use Rattle.step_fields.specs.declared.column.Column.{Column}
 use Rattle.step_files.specs.Cubes.{layout_in}
-use Rattle.step_files.specs.Tasks.{base_from, base_work_at, desc_at, dict_from, dict_work_at, flat_from, flat_work_at, layer_from, layer_work_at}
+use Rattle.step_files.specs.Tasks.{base_from, base_work_at, desc_at, dict_from, dict_work_at, flat_from, flat_work_at, layer_from, layer_work_at, rows_and_dicts_at}
 use Rattle.step_files.specs.declared.task.Task.TheVariants.{Flat, Dict, Base, Layer}
 use Rattle.step_files.proofs.ReadFacts.{as_fails, as_gives, first_fails, second_fails, then_gives}
 
@@ -25,10 +25,28 @@ abbrev after_dict : List ℕ → List ℕ → Option (List (List Val) × List �
 after_dict desc = rows_at (layout_in desc).flat row_limit
 
 abbrev after_base : List ℕ → List ℕ → Option ((List (List Val) × List (List Val)) × List ℕ)
-after_base desc = then_at (rows_at (layout_in desc).flat row_limit) (λ flat. holding_at (layout_in desc) size_limit flat)
+after_base desc = rows_and_dicts_at (layout_in desc)
 
 abbrev after_layer : List ℕ → List ℕ → Option ((ℕ × (List ℕ × List CellRows)) × List ℕ)
 after_layer desc = layer_at (layout_in desc)
+
+-- ---- rows and dictionaries
+
+module _ (l : Layout) (bytes : List ℕ) (columns : List Column) (same : columns ≡ l.flat) where
+  pub no_base_rows : (e : ReadError) → Fails e (rows_at columns row_limit bytes) → Fails e (rows_and_dicts_at l bytes)
+  no_base_rows e h = first_fails (rows_at l.flat row_limit) (λ flat. holding_at l size_limit flat) bytes e (subst (λ (cs : List Column). Fails e (rows_at cs row_limit bytes)) same h)
+
+  module _ (flat rows : List (List Val)) (are : rows ≡ flat) (more : List ℕ) (first : rows_at columns row_limit bytes ≡ Some (flat, more)) where
+    own_rows : rows_at l.flat row_limit bytes ≡ Some (flat, more)
+    own_rows = subst (λ (cs : List Column). rows_at cs row_limit bytes ≡ Some (flat, more)) same first
+
+    pub no_base_dicts : (e : ReadError) → Fails e (holding_at l size_limit rows more) → Fails e (rows_and_dicts_at l bytes)
+    no_base_dicts e h =
+        second_fails (rows_at l.flat row_limit) (λ flat. holding_at l size_limit flat) bytes flat more e own_rows (subst (λ (r : List (List Val)). Fails e (holding_at l size_limit r more)) are h)
+
+    pub base_rows_given : (dicts : List (List Val)) (rest : List ℕ) → holding_at l size_limit rows more ≡ Some (dicts, rest) → rows_and_dicts_at l bytes ≡ Some ((flat, dicts), rest)
+    base_rows_given dicts rest h =
+        then_gives (rows_at l.flat row_limit) (λ flat. holding_at l size_limit flat) bytes flat more dicts rest own_rows (subst (λ (r : List (List Val)). holding_at l size_limit r more ≡ Some (dicts, rest)) are h)
 
 -- ---- no descriptor
 
@@ -86,34 +104,20 @@ module _ (bytes left desc : List ℕ) (first : desc_at bytes ≡ Some (desc, lef
         let own : after_dict desc left ≡ Some (flat, rest) = subst (λ (cs : List Column). rows_at cs row_limit left ≡ Some (flat, rest)) same h in
         as_gives dict_from dict_work_at bytes (desc, flat) rest (then_gives desc_at after_dict bytes desc left flat rest first own)
 
-    -- ---- base
+  -- ---- base
 
-    pub no_base_rows : (e : ReadError) → Fails e (rows_at columns row_limit left) → Fails e (as_at base_from base_work_at bytes)
+  module _ (l : Layout) (same : l ≡ layout_in desc) where
+    pub no_base_work : (e : ReadError) → Fails e (rows_and_dicts_at l left) → Fails e (as_at base_from base_work_at bytes)
     unfolding base_work_at
-    no_base_rows e h =
-        let own : Fails e (after_dict desc left) = subst (λ (cs : List Column). Fails e (rows_at cs row_limit left)) same h in
-        as_fails base_from base_work_at bytes e
-        (second_fails desc_at after_base bytes desc left e first (first_fails (rows_at (layout_in desc).flat row_limit) (λ flat. holding_at (layout_in desc) size_limit flat) left e own))
+    no_base_work e h =
+        let own : Fails e (after_base desc left) = subst (λ (k : Layout). Fails e (rows_and_dicts_at k left)) same h in
+        as_fails base_from base_work_at bytes e (second_fails desc_at after_base bytes desc left e first own)
 
-    module _ (l : Layout) (is : l ≡ layout_in desc) (flat rows : List (List Val)) (are : rows ≡ flat) (more : List ℕ) (second : rows_at columns row_limit left ≡ Some (flat, more)) where
-      own_rows : after_dict desc left ≡ Some (flat, more)
-      own_rows = subst (λ (cs : List Column). rows_at cs row_limit left ≡ Some (flat, more)) same second
-
-      pub no_base_dicts : (e : ReadError) → Fails e (holding_at l size_limit rows more) → Fails e (as_at base_from base_work_at bytes)
-      unfolding base_work_at
-      no_base_dicts e h =
-          let own : Fails e (holding_at (layout_in desc) size_limit flat more) = subst (λ (k : Layout). Fails e (holding_at k size_limit flat more)) is (subst (λ (r : List (List Val)). Fails e (holding_at l size_limit r more)) are h) in
-          as_fails base_from base_work_at bytes e
-          (second_fails desc_at after_base bytes desc left e first (second_fails (rows_at (layout_in desc).flat row_limit) (λ flat. holding_at (layout_in desc) size_limit flat) left flat more e own_rows own))
-
-      pub base_given : (dicts : List (List Val)) (rest : List ℕ) → holding_at l size_limit rows more ≡ Some (dicts, rest) → as_at base_from base_work_at bytes ≡ Some (Base desc flat dicts, rest)
-      unfolding base_work_at
-      base_given dicts rest h =
-          let own : holding_at (layout_in desc) size_limit flat more ≡ Some (dicts, rest)
-          = subst (λ (k : Layout). holding_at k size_limit flat more ≡ Some (dicts, rest)) is (subst (λ (r : List (List Val)). holding_at l size_limit r more ≡ Some (dicts, rest)) are h) in
-          as_gives base_from base_work_at bytes (desc, (flat, dicts)) rest
-          (then_gives desc_at after_base bytes desc left (flat, dicts) rest first
-          (then_gives (rows_at (layout_in desc).flat row_limit) (λ flat. holding_at (layout_in desc) size_limit flat) left flat more dicts rest own_rows own))
+    pub base_given : (flat dicts : List (List Val)) (rest : List ℕ) → rows_and_dicts_at l left ≡ Some ((flat, dicts), rest) → as_at base_from base_work_at bytes ≡ Some (Base desc flat dicts, rest)
+    unfolding base_work_at
+    base_given flat dicts rest h =
+        let own : after_base desc left ≡ Some ((flat, dicts), rest) = subst (λ (k : Layout). rows_and_dicts_at k left ≡ Some ((flat, dicts), rest)) same h in
+        as_gives base_from base_work_at bytes (desc, (flat, dicts)) rest (then_gives desc_at after_base bytes desc left (flat, dicts) rest first own)
 
   -- ---- layer
 

@@ -1,10 +1,11 @@
 -- What the step files of a cube are read by.
-use Rattle.std.specs.Prelude.{ℕ, ◌+◌, Bool, true, false, ◌==◌, ◌&&◌, not, List, [], ◌∷◌, ◌++◌, Option, Some, None, drop, filter, length, map, option_to_list, slice_get, slice_index_or}
-use Rattle.std.specs.List.{filter_map, flat_map, position_or_len, range_with_len}
+use Rattle.std.specs.Prelude.{ℕ, ◌+◌, Bool, true, false, ◌==◌, ◌&&◌, not, List, [], ◌∷◌, ◌++◌, Option, Some, None, filter, length, map, option_to_list, slice_get, slice_index_or}
+use Rattle.std.specs.List.{flat_map, range_with_len}
 use Rattle.cube_val.specs.declared.form.ColDesc.{ColDesc}
 use Rattle.cube_val.specs.declared.form.WideCol.{WideCol}
 use Rattle.cube_val.specs.declared.val.ColType.TheVariants as ty
 use Rattle.cube_desc.specs.Cube.{Cube}
+use Rattle.cube_desc.specs.FlatRow.{dict_places, is_count, measured}
 use Rattle.cube_desc.specs.Forms.{form_of}
 use Rattle.cube_desc.specs.Meaning.{desc_of}
 use Rattle.cube_desc.specs.declared.desc.MeasureDesc.{MeasureDesc}
@@ -43,54 +44,16 @@ no_column = record { ty = ty.Int; no_null = false }
 abbrev pub column_at : List TableShape → WideCol → Column
 column_at tables w = slice_index_or (slice_index_or tables w.table no_table).columns w.column no_column
 
--- of the columns of a joined row those that measures are of, which come last
-abbrev pub measured : Cube → List WideCol
-measured c = drop (length c.rowkey + length c.derived) c.plan.wide
-
 -- the columns of a flat row: those of the rowkey, and those that measures are of
-unfoldable pub flat_of : Cube → List Column
-flat_of c = map (column_at (tables_of c)) c.rowkey ++ map (column_at (tables_of c)) (measured c)
+unfoldable pub flat_columns : Cube → List Column
+flat_columns c = map (column_at (tables_of c)) c.rowkey ++ map (column_at (tables_of c)) (measured c)
 
 -- ---- dictionaries
-
-abbrev pub is_column : ℕ → WideCol → Bool
-is_column column w = w.column == column
-
--- the place in a flat row of the column that a measure is of
-abbrev pub place_of : Cube → Option ℕ → ℕ
-place_of c None = 0
-place_of c (Some column) = length c.rowkey + position_or_len (is_column column) (measured c)
-
-abbrev pub distinct_by : ℕ → MeasureForm → Option ℕ
-distinct_by place measure.Distinct = Some place
-distinct_by place measure.Count = None
-distinct_by place measure.Sum = None
-distinct_by place measure.Min = None
-distinct_by place measure.Max = None
-
--- the place of the column whose different values a measure counts
-abbrev pub distinct_place : Cube → MeasureDesc → Option ℕ
-distinct_place c m = distinct_by (place_of c m.column) m.form
-
--- the places of the columns whose different values are counted
-unfoldable pub distinct_places : Cube → List ℕ
-distinct_places c = filter_map (distinct_place c) c.measures
-
--- the places of the columns that have a dictionary: those of the rowkey, and then one for each measure of different values
-abbrev pub dict_places : Cube → List ℕ
-dict_places c = range_with_len 0 (length c.rowkey) ++ distinct_places c
 
 abbrev pub dict_column : List Column → ℕ → DictColumn
 dict_column flat place = record { column = slice_index_or flat place no_column; place = place }
 
 -- ---- measures
-
-abbrev pub is_count : MeasureForm → Bool
-is_count measure.Count = true
-is_count measure.Sum = false
-is_count measure.Min = false
-is_count measure.Max = false
-is_count measure.Distinct = false
 
 abbrev pub kept_of : MeasureDesc → Kept
 kept_of m = record { form = m.form; column = m.column }
@@ -149,8 +112,8 @@ extremes_of measures = flat_map (extremes_with measures) (range_with_len 0 (leng
 unfoldable pub layout_of : Cube → Layout
 layout_of c = record {
   tables = tables_of c;
-  flat = flat_of c;
-  dicts = map (dict_column (flat_of c)) (dict_places c);
+  flat = flat_columns c;
+  dicts = map (dict_column (flat_columns c)) (dict_places c);
   dims = length c.rowkey;
   measures = forms_from (length c.rowkey) (kept_measures c);
   extremes = extremes_of (kept_measures c);

@@ -1,8 +1,8 @@
 -- The files of tasks and of products.
 use Rattle.std.specs.Prelude.{◌≡◌, ◌==◌, ℕ, List, Option, Some, None, bytes_eq, replicate, if◌then◌else◌}
 use Rattle.byte_frame.specs.Reading.{◌>>=◌, all_of}
-use Rattle.sealed_frame.specs.Frames.{Frame, frame_text}
-use Rattle.sealed_frame.specs.Reading.{frame_at}
+use Rattle.byte_frame.specs.Frames.{Frame, frame_text}
+use Rattle.byte_frame.specs.FrameReading.{frame_at}
 use Rattle.sha2.specs.Sha256.{sha256}
 use Rattle.step_files.specs.Products.{FitsProduct, product_at, product_body}
 use Rattle.step_files.specs.Tasks.{FitsTask, body_at, task_body}

@@ -77,8 +77,12 @@ flat_work_at = then_at desc_at (λ desc. then_at range_at (λ _. all_loaded_at (
 unfoldable pub dict_work_at : List ℕ → Option ((List ℕ × List (List Val)) × List ℕ)
 dict_work_at = then_at desc_at (λ desc. rows_at (layout_in desc).flat row_limit)
 
+-- flat rows, and dictionaries that hold their values
+abbrev pub rows_and_dicts_at : Layout → List ℕ → Option ((List (List Val) × List (List Val)) × List ℕ)
+rows_and_dicts_at l = then_at (rows_at l.flat row_limit) (λ flat. holding_at l size_limit flat)
+
 unfoldable pub base_work_at : List ℕ → Option ((List ℕ × (List (List Val) × List (List Val))) × List ℕ)
-base_work_at = then_at desc_at (λ desc. then_at (rows_at (layout_in desc).flat row_limit) (λ flat. holding_at (layout_in desc) size_limit flat))
+base_work_at = then_at desc_at (λ desc. rows_and_dicts_at (layout_in desc))
 
 unfoldable pub layer_work_at : List ℕ → Option ((List ℕ × (ℕ × (List ℕ × List CellRows))) × List ℕ)
 layer_work_at = then_at desc_at (λ desc. layer_at (layout_in desc))

@@ -12,15 +12,13 @@ ghost use Rattle.step_files.specs.Cubes.{layout_in};
 ghost use Rattle.step_files.specs.Products.{is_seal, product_at};
 ghost use Rattle.step_files.specs.Tasks.{FitsTask, is_descriptor};
 
-use crate::cube::layout;
 use crate::product::Product;
-use crate::reading::read_flat;
+use crate::reading::{read_flat, read_layout};
 use crate::task::Task;
 use agg_group::Mask;
 use byte_frame::{FieldReader, ReadError};
 use cell_store::CellTable;
-use cube_desc::{DescRefusal, read_desc};
-use cube_fields::{read_table, read_tables};
+use cube_fields::{CellTableForm, read_table, read_tables};
 use cube_val::Items;
 use dim_dictionary::DictSet;
 use plain_answer::FlatRows;
@@ -35,10 +33,10 @@ fn layout_of(alloc: Global, desc: &[u8]) -> Result<Layout, AllocError>
     ensures layout { IfOk result (λ l. l ≡ layout_in desc.now) }
     ensures holds { IfOk result IsLayout }
 {
-    match read_desc(alloc, desc) {
-        Ok(desc) => layout(alloc, &desc),
-        Err(DescRefusal::Fault(_)) => unreachable!(),
-        Err(DescRefusal::Memory) => Err(AllocError),
+    match read_layout(alloc, desc) {
+        Ok(layout) => Ok(layout),
+        Err(ReadError::Malformed) => unreachable!(),
+        Err(ReadError::Memory) => Err(AllocError),
     }
 }
 
@@ -92,6 +90,28 @@ fn read_dicts_product(
     }
 }
 
+// The form of the base cuboid, whose dictionaries are these.
+fn base_form(alloc: Global, layout: &Layout, dicts: &DictSet) -> Result<CellTableForm, AllocError>
+    ensures { IfOk result (λ form. form ≡ table_form layout.now (map length dicts.now) 1) }
+{
+    let sizes = sizes_of(alloc, dicts)?;
+    table_form(alloc, layout, sizes.as_slice())
+}
+
+// The table of the base cuboid.
+fn read_base_table(
+    alloc: Global,
+    layout: &Layout,
+    dicts: &DictSet,
+    r: &mut FieldReader,
+) -> Result<CellTable, ReadError>
+    requires { IsLayout layout.now }
+    ensures { Gives (λ table. (table, r.new)) result (table_at (table_form layout.now (map length dicts.now) 1) (base_mask layout.now) r.old) }
+{
+    let form = base_form(alloc, layout, dicts)?;
+    read_table(alloc, &form, base_mask(layout), r)
+}
+
 // The base cuboid.
 fn read_base_product(
     alloc: Global,
@@ -103,9 +123,7 @@ fn read_base_product(
     ensures { Gives (λ p. (p, r.new)) result (as_at Product.Base (table_at (table_form (layout_in desc.now) (map length dicts.now) 1) (base_mask (layout_in desc.now))) r.old) }
 {
     let layout = layout_of(alloc, desc)?;
-    let sizes = sizes_of(alloc, dicts)?;
-    let form = table_form(alloc, &layout, sizes.as_slice())?;
-    match read_table(alloc, &form, base_mask(&layout), r) {
+    match read_base_table(alloc, &layout, dicts, r) {
         Ok(table) => Ok(Product::Base(table)),
         Err(e) => Err(e),
     }

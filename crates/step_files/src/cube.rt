@@ -1,12 +1,15 @@
 // What the step files of a cube are read by.
 
 ghost use Rattle.std.specs.Prelude.{◌≡◌, ◌<◌, ◌+◌, ◌^◌, ◌++◌, IfOk, OnOk, length, map, option_to_list};
+ghost use Rattle.cube_desc.specs.FlatRow.{dict_places, measured};
 ghost use Rattle.cube_desc.specs.Sound.{IsSound};
 ghost use Rattle.step_codec.specs.Layouts.{IsLayout};
-ghost use Rattle.step_files.specs.Cubes.{column_at, columns_in, dict_after, dict_column, dict_places, distinct_by, distinct_place, distinct_places, flat_of, forms_from, kept_by, layout_in, layout_of, measured, place_of, table_of, tables_of};
+ghost use Rattle.step_files.specs.Cubes.{column_at, columns_in, dict_after, dict_column, extremes_of, flat_columns, forms_from, kept_by, kept_measures, layout_in, layout_of, table_of, tables_of};
 
 use crate::measures::{Kept, extremes_of, kept_measures};
-use cube_desc::{CubeDesc, CubeParts, MeasureDesc};
+use cube_desc::flat_row::{dict_places, measured};
+use cube_desc::{CubeDesc, CubeParts};
+use cube_fields::Extremes;
 use cube_val::{ColDesc, ColType, Items, TableForm, WideCol};
 use measure_laws::MeasureForm;
 use std::alloc::{AllocError, Global};
@@ -85,109 +88,21 @@ fn push_columns(
     Ok(())
 }
 
-// The columns of a joined row that measures are of.
-fn measured(cube: &CubeParts) -> &[WideCol]
-    requires { IsSound cube.now }
-    ensures { result.now ≡ measured cube.now }
-{
-    let wide = cube.plan.wide.as_slice();
-    let (_, measured) = wide.split_at(cube.rowkey.len() + cube.derived.len());
-    measured
-}
-
 // The columns of a flat row.
-#[tactic(auto, unfolding(crate::specs::Cubes::flat_of))]
-fn flat_of(
+#[tactic(auto, unfolding(crate::specs::Cubes::flat_columns))]
+fn flat_columns(
     alloc: Global,
     cube: &CubeParts,
     tables: &[TableColumns],
 ) -> Result<Vec<Column>, AllocError>
     requires sound { IsSound cube.now }
     requires tables { tables.now ≡ tables_of cube.now }
-    ensures { IfOk result (λ v. v.items ≡ flat_of cube.now) }
+    ensures { IfOk result (λ v. v.items ≡ flat_columns cube.now) }
 {
     let mut flat = Vec::new(alloc);
     push_columns(&mut flat, tables, cube.rowkey.as_slice())?;
     push_columns(&mut flat, tables, measured(cube))?;
     Ok(flat)
-}
-
-// The place in a flat row of the column that a measure is of.
-fn place_of(cube: &CubeParts, column: Option<usize>) -> usize
-    requires { IsSound cube.now }
-    ensures { result ≡ place_of cube.now column }
-{
-    match column {
-        None => 0,
-        Some(column) => {
-            let measured = measured(cube);
-            let place = measured.iter().position(|w| w.column == column);
-            cube.rowkey.len() + place.unwrap_or(measured.len())
-        }
-    }
-}
-
-fn distinct_by(place: usize, form: MeasureForm) -> Option<usize>
-    ensures { result ≡ distinct_by place form }
-{
-    match form {
-        MeasureForm::Distinct => Some(place),
-        MeasureForm::Count => None,
-        MeasureForm::Sum => None,
-        MeasureForm::Min => None,
-        MeasureForm::Max => None,
-    }
-}
-
-// The place of the column whose different values a measure counts.
-fn distinct_place(cube: &CubeParts, measure: &MeasureDesc) -> Option<usize>
-    requires { IsSound cube.now }
-    ensures { result ≡ distinct_place cube.now measure.now }
-{
-    distinct_by(place_of(cube, measure.column), measure.form)
-}
-
-// Adds a place, if there is one.
-fn push_place(places: &mut Vec<usize>, place: Option<usize>) -> Result<(), AllocError>
-    ensures { OnOk result (places.new.items ≡ places.old.items ++ option_to_list place) }
-{
-    match place {
-        Some(place) => {
-            places.push(place)?;
-            Ok(())
-        }
-        None => Ok(()),
-    }
-}
-
-// The places of the columns whose different values are counted.
-#[tactic(auto, unfolding(crate::specs::Cubes::distinct_places))]
-fn distinct_places(alloc: Global, cube: &CubeParts) -> Result<Vec<usize>, AllocError>
-    requires { IsSound cube.now }
-    ensures { IfOk result (λ v. v.items ≡ distinct_places cube.now) }
-{
-    let mut places = Vec::new(alloc);
-    for measure in cube.measures.as_slice() {
-        push_place(&mut places, distinct_place(cube, measure))?;
-    }
-    Ok(places)
-}
-
-// The places of the columns that have a dictionary.
-fn dict_places(
-    alloc: Global,
-    cube: &CubeParts,
-    distinct: &[usize],
-) -> Result<Vec<usize>, AllocError>
-    requires { distinct.now ≡ distinct_places cube.now }
-    ensures { IfOk result (λ v. v.items ≡ dict_places cube.now) }
-{
-    let mut places = Vec::new(alloc);
-    for place in 0..cube.rowkey.len() {
-        places.push(place)?;
-    }
-    places.extend_from_slice(distinct)?;
-    Ok(places)
 }
 
 // The column at a place of a flat row, with its place.
@@ -274,6 +189,38 @@ fn forms_from(alloc: Global, dict: usize, measures: &[Kept]) -> Result<Vec<KeptF
     Ok(forms)
 }
 
+// The columns of the cube that have a dictionary.
+fn cube_dicts(
+    alloc: Global,
+    cube: &CubeParts,
+    flat: &[Column],
+) -> Result<Vec<DictColumn>, AllocError>
+    requires { IsSound cube.now }
+    ensures { IfOk result (λ v. v.items ≡ map (dict_column flat.now) (dict_places cube.now)) }
+{
+    let places = dict_places(alloc, cube)?;
+    dict_columns(alloc, flat, places.as_slice())
+}
+
+// The forms of the measures that a cube keeps, and the pairs among them.
+#[derive(Drop)]
+struct KeptForms {
+    forms: Vec<KeptForm>,
+    extremes: Vec<Extremes>,
+}
+
+// The forms of the cube's measures.
+fn kept_forms(alloc: Global, cube: &CubeParts) -> Result<KeptForms, AllocError>
+    requires { IsSound cube.now }
+    ensures forms { IfOk result (λ k. k.forms.items ≡ forms_from (length cube.now.rowkey) (kept_measures cube.now)) }
+    ensures extremes { IfOk result (λ k. k.extremes.items ≡ extremes_of (kept_measures cube.now)) }
+{
+    let measures = kept_measures(alloc, cube)?;
+    let extremes = extremes_of(alloc, measures.as_slice())?;
+    let forms = forms_from(alloc, cube.rowkey.len(), measures.as_slice())?;
+    Ok(KeptForms { forms, extremes })
+}
+
 // What the step files of the cube are read by.
 #[tactic(auto, unfolding(crate::specs::Cubes::layout_of))]
 fn layout_of(alloc: Global, desc: &CubeDesc) -> Result<Layout, AllocError>
@@ -281,21 +228,17 @@ fn layout_of(alloc: Global, desc: &CubeDesc) -> Result<Layout, AllocError>
 {
     let cube = desc.parts();
     let tables = tables_of(alloc, desc)?;
-    let flat = flat_of(alloc, cube, tables.as_slice())?;
-    let distinct = distinct_places(alloc, cube)?;
-    let places = dict_places(alloc, cube, distinct.as_slice())?;
-    let dicts = dict_columns(alloc, flat.as_slice(), places.as_slice())?;
-    let measures = kept_measures(alloc, cube)?;
-    let extremes = extremes_of(alloc, measures.as_slice())?;
-    let forms = forms_from(alloc, cube.rowkey.len(), measures.as_slice())?;
+    let flat = flat_columns(alloc, cube, tables.as_slice())?;
+    let dicts = cube_dicts(alloc, cube, flat.as_slice())?;
+    let kept = kept_forms(alloc, cube)?;
     let masks = Items::from_slice(alloc, cube.masks.as_slice())?;
     Ok(Layout {
         tables: Items::of(tables),
         flat: Items::of(flat),
         dicts: Items::of(dicts),
         dims: cube.rowkey.len(),
-        measures: Items::of(forms),
-        extremes: Items::of(extremes),
+        measures: Items::of(kept.forms),
+        extremes: Items::of(kept.extremes),
         masks,
     })
 }

@@ -2,7 +2,7 @@
 
 ghost use Rattle.std.specs.Prelude.{◌≡◌, ◌<◌, ◌^◌, IfOk, Err, bytes_eq, length, option_map};
 ghost use Rattle.byte_frame.specs.Outcomes.{Gives};
-ghost use Rattle.sealed_frame.specs.Frames.{frame_of};
+ghost use Rattle.byte_frame.specs.Frames.{frame_of};
 ghost use Rattle.step_files.specs.Files.{IsProductFile, IsTaskFile, body_in, body_of, digest_of, file_of, product_in, task_at, task_text};
 ghost use Rattle.step_files.specs.Products.{IsShortProduct};
 ghost use Rattle.step_files.specs.Tasks.{FitsTask};
@@ -13,8 +13,7 @@ use crate::product::Product;
 use crate::reading::read_body;
 use crate::task::Task;
 use crate::writing::{product_body, task_body};
-use byte_frame::ReadError;
-use sealed_frame::{FrameHead, put_frame, take_frame};
+use byte_frame::{FrameHead, ReadError, put_frame, take_frame};
 use sha2::{Digest, Sha256};
 use std::alloc::{AllocError, Global};
 

@@ -1,6 +1,6 @@
 //! Tasks of steps and their products, as the files in which a child finds and leaves them.
 //!
-//! A file is a sealed frame (`sealed_frame`) of version 1. The digest of a task's frame is 32 zero bytes, that of a product
+//! A file is a sealed frame (`byte_frame`) of version 1. The digest of a task's frame is 32 zero bytes, that of a product
 //! is the SHA-256 of the whole file of its task. The bodies are put together from the fields of `step_codec`; which columns,
 //! dictionaries and cuboids stand in them is a function of the descriptor that a task holds ([`layout`]).
 //!

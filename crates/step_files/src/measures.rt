@@ -1,9 +1,10 @@
 // The measures that a cube keeps beside the count.
 
 ghost use Rattle.std.specs.Prelude.{◌≡◌, ◌<◌, ◌++◌, IfOk, OnOk, length, slice_get};
-ghost use Rattle.step_files.specs.Cubes.{are_extremes, are_forms, extremes_of, extremes_with, is_count, is_same, kept_measures};
+ghost use Rattle.step_files.specs.Cubes.{are_extremes, are_forms, extremes_of, extremes_with, is_same, kept_measures};
 
 use cube_desc::CubeParts;
+use cube_desc::flat_row::is_count;
 use cube_fields::Extremes;
 use measure_laws::MeasureForm;
 use std::alloc::{AllocError, Global};
@@ -15,18 +16,6 @@ pub(crate) struct Kept {
     pub(crate) form: MeasureForm,
     /// The fact table's column that it is of.
     pub(crate) column: Option<usize>,
-}
-
-fn is_count(form: MeasureForm) -> bool
-    ensures { result ≡ is_count form }
-{
-    match form {
-        MeasureForm::Count => true,
-        MeasureForm::Sum => false,
-        MeasureForm::Min => false,
-        MeasureForm::Max => false,
-        MeasureForm::Distinct => false,
-    }
 }
 
 /// The measures that are kept beside the count, in their order.

@@ -7,13 +7,14 @@ ghost use Rattle.step_fields.specs.Reading.{range_at, rows_at};
 ghost use Rattle.step_codec.specs.Layouts.{IsLayout, row_limit};
 ghost use Rattle.step_codec.specs.Seals.{seal_at};
 ghost use Rattle.step_files.specs.Cubes.{layout_in};
-ghost use Rattle.step_files.specs.Tasks.{base_from, base_work_at, body_at, desc_at, dict_from, dict_work_at, flat_from, flat_work_at, is_descriptor, layer_from, layer_work_at, work_at};
+ghost use Rattle.step_files.specs.Tasks.{base_from, base_work_at, body_at, desc_at, dict_from, dict_work_at, flat_from, flat_work_at, is_descriptor, layer_from, layer_work_at, rows_and_dicts_at, work_at};
 
 use crate::cube::layout;
 use crate::task::Task;
 use byte_frame::{FieldReader, ReadError, read_list};
 use cube_desc::{DescRefusal, read_desc};
 use cube_val::Items;
+use dim_dictionary::DictSet;
 use plain_answer::FlatRows;
 use range_list::Range;
 use std::alloc::Global;
@@ -29,18 +30,32 @@ struct Described {
     layout: Layout,
 }
 
+/// What the step files of the cube that the bytes describe are read by; `Malformed` exactly where they describe none.
+pub(crate) fn read_layout(alloc: Global, bytes: &[u8]) -> Result<Layout, ReadError>
+    ensures desc { Gives (λ _. bytes.now) result (if is_descriptor bytes.now then Some bytes.now else None) }
+    ensures layout { IfOk result (λ l. l ≡ layout_in bytes.now) }
+    ensures holds { IfOk result IsLayout }
+{
+    match read_desc(alloc, bytes) {
+        Ok(desc) => match layout(alloc, &desc) {
+            Ok(layout) => Ok(layout),
+            Err(_) => Err(ReadError::Memory),
+        },
+        Err(DescRefusal::Fault(_)) => Err(ReadError::Malformed),
+        Err(DescRefusal::Memory) => Err(ReadError::Memory),
+    }
+}
+
 // The descriptor that the bytes are.
 fn describe(alloc: Global, bytes: &[u8]) -> Result<Described, ReadError>
     ensures desc { Gives (λ d. d.desc) result (if is_descriptor bytes.now then Some bytes.now else None) }
     ensures layout { IfOk result (λ d. d.layout ≡ layout_in d.desc) }
     ensures holds { IfOk result (λ d. IsLayout d.layout) }
 {
-    let desc = match read_desc(alloc, bytes) {
-        Ok(desc) => desc,
-        Err(DescRefusal::Fault(_)) => return Err(ReadError::Malformed),
-        Err(DescRefusal::Memory) => return Err(ReadError::Memory),
+    let layout = match read_layout(alloc, bytes) {
+        Ok(layout) => layout,
+        Err(e) => return Err(e),
     };
-    let layout = layout(alloc, &desc)?;
     let desc = Items::from_slice(alloc, bytes)?;
     Ok(Described { desc, layout })
 }
@@ -126,6 +141,32 @@ fn read_dict_task(alloc: Global, r: &mut FieldReader) -> Result<Task, ReadError>
     Ok(Task::Dict { desc, flat })
 }
 
+// Flat rows, and dictionaries that hold their values.
+#[derive(Drop)]
+struct BaseWork {
+    flat: FlatRows,
+    dicts: DictSet,
+}
+
+// Flat rows and dictionaries, by the layout of their cube.
+#[tactic(none)]
+fn read_base_work(
+    alloc: Global,
+    layout: &Layout,
+    r: &mut FieldReader,
+) -> Result<BaseWork, ReadError>
+    ensures { Gives (λ w. ((w.flat, w.dicts), r.new)) result (rows_and_dicts_at layout.now r.old) }
+{
+    let flat = match read_flat(alloc, layout.flat.as_slice(), r) {
+        Ok(flat) => flat,
+        Err(e) => return Err(e),
+    };
+    match read_holding(alloc, layout, SIZE_LIMIT, flat.rows(), r) {
+        Ok(dicts) => Ok(BaseWork { flat, dicts }),
+        Err(e) => Err(e),
+    }
+}
+
 // What a base step works on.
 #[tactic(none)]
 fn read_base_task(alloc: Global, r: &mut FieldReader) -> Result<Task, ReadError>
@@ -135,15 +176,12 @@ fn read_base_task(alloc: Global, r: &mut FieldReader) -> Result<Task, ReadError>
         Ok(cube) => cube,
         Err(e) => return Err(e),
     };
-    let flat = match read_flat(alloc, cube.layout.flat.as_slice(), r) {
-        Ok(flat) => flat,
-        Err(e) => return Err(e),
-    };
-    let dicts = match read_holding(alloc, &cube.layout, SIZE_LIMIT, flat.rows(), r) {
-        Ok(dicts) => dicts,
+    let work = match read_base_work(alloc, &cube.layout, r) {
+        Ok(work) => work,
         Err(e) => return Err(e),
     };
     let Described { desc, layout: _ } = cube;
+    let BaseWork { flat, dicts } = work;
     Ok(Task::Base { desc, flat, dicts })
 }
 

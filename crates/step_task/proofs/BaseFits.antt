@@ -28,16 +28,16 @@ use Rattle.step_codec.specs.Bodies.{FitsHolding, holds, is_in}
 use Rattle.step_codec.specs.Layouts.{base_mask as last_mask, cell_form, size_limit, table_form}
 use Rattle.step_codec.specs.declared.layout.DictColumn.{DictColumn}
 use Rattle.step_fields.specs.Fits.{FitsRow}
-use Rattle.step_files.specs.Cubes.{dict_column, dict_places as form_places, distinct_places as form_distinct, extremes_of, flat_of as flat_columns, forms_from, is_count, kept_measures, kept_of, layout_of}
+use Rattle.cube_desc.specs.FlatRow.{dict_places, distinct_place, distinct_places, is_count}
+use Rattle.step_files.specs.Cubes.{dict_column, extremes_of, flat_columns, forms_from, kept_measures, kept_of, layout_of}
 use Rattle.step_files.specs.Tasks.{FitsFlat}
 use Rattle.step_files.proofs.ShortFacts.{each_length}
 use Rattle.cube_fields.specs.Dicts.{FitsDict}
 use Rattle.step_codec.specs.Layouts.{dict_form}
-use Rattle.step_compute.specs.Columns.{agg_of, dict_places, distinct_place, kept_aggs}
+use Rattle.step_compute.specs.Columns.{agg_of, kept_aggs}
 use Rattle.step_compute.specs.Values.{base_value}
 use Rattle.step_compute.proofs.ColumnFacts.{places_counted}
 use Rattle.step_task.proofs.BaseMask.{last_is_base, sizes_in_base}
-use Rattle.step_task.proofs.DictFits.{places_are}
 use Rattle.step_task.proofs.ExtremeFacts.{all_pairs, are_extremes_at, mapped_at, no_count, others}
 use Rattle.step_task.proofs.GroupFits.{AreExtremes, Ordered, Row, both_parts, grouped_fits}
 use Rattle.step_task.proofs.RowFits.{at_back, at_front, cells_fit, dict_small, held_at, key_fits, pair_ordered, valid}
@@ -68,7 +68,7 @@ module _ (c : Cube) (dicts : List (List Val)) (small : (i : ℕ) → length (dic
   sizes = map length dicts
 
   abbrev columns : List DictColumn
-  columns = map (dict_column (flat_columns c)) (form_places c)
+  columns = map (dict_column (flat_columns c)) (dict_places c)
 
   abbrev kept : List MeasureDesc
   kept = others c.measures
@@ -82,14 +82,14 @@ module _ (c : Cube) (dicts : List (List Val)) (small : (i : ℕ) → length (dic
   module _ (len : length dicts ≡ length columns) where
     place_held : (row : List Val) → holds columns dicts row ≡ true → (i : ℕ) → i < width → is_in (dict_at dicts i) (cell row i) ≡ true
     place_held row held i lt =
-        let at : slice_get (form_places c) i ≡ Some i = at_front 0 width i (form_distinct c) lt ∙ (let same : 0 + i ≡ i = omega arith in ap Some same) in
-        held_at columns dicts row i (dict_column (flat_columns c) i) len held (mapped_at (dict_column (flat_columns c)) (form_places c) i i at)
+        let at : slice_get (dict_places c) i ≡ Some i = at_front 0 width i (distinct_places c) lt ∙ (let same : 0 + i ≡ i = omega arith in ap Some same) in
+        held_at columns dicts row i (dict_column (flat_columns c) i) len held (mapped_at (dict_column (flat_columns c)) (dict_places c) i i at)
 
     measure_held : (row : List Val) → holds columns dicts row ≡ true → (i place : ℕ) → slice_get (filter_map (distinct_place c) c.measures) i ≡ Some place → is_in (dict_at dicts (width + i)) (cell row place) ≡ true
-    unfolding form_distinct
+    unfolding distinct_places
     measure_held row held i place e =
         held_at columns dicts row (width + i) (dict_column (flat_columns c) place) len held
-        (mapped_at (dict_column (flat_columns c)) (form_places c) (width + i) place (at_back 0 width i (form_distinct c) ∙ e))
+        (mapped_at (dict_column (flat_columns c)) (dict_places c) (width + i) place (at_back 0 width i (distinct_places c) ∙ e))
 
     row_key : (row : List Val) → holds columns dicts row ≡ true → EachFits FitsId (sizes_in form.sizes (base_mask width)) (one row).0
     row_key row held =
@@ -147,11 +147,11 @@ pub base_fits : (c : Cube) → IsSound c → (flat dicts : List (List Val)) → 
     → FitsTable (table_form (layout_of c) (map length dicts) 1) (last_mask (layout_of c)) (base_value c flat dicts)
 unfolding layout_of kept_measures
 base_fits c s flat dicts h g =
-    let columns : List DictColumn = map (dict_column (flat_columns c)) (form_places c) in
+    let columns : List DictColumn = map (dict_column (flat_columns c)) (dict_places c) in
     let len : length dicts ≡ length columns = each_length FitsDict (map (dict_form size_limit) columns) dicts g.0 ∙ length-map columns (dict_form size_limit) in
     let small : (i : ℕ) → length (dict_at dicts i) < 2 ^ 32 = λ i. omega (arith, dict_small size_limit columns dicts i g.0) in
     let few : length c.rowkey ≤ 64 = omega (arith, s.few_dimensions) in
-    let counted : length dicts ≡ length (dict_places c) = len ∙ length-map (form_places c) (dict_column (flat_columns c)) ∙ ap length (sym (places_are c)) in
+    let counted : length dicts ≡ length (dict_places c) = len ∙ length-map (dict_places c) (dict_column (flat_columns c)) in
     let wide : key_width (kept_aggs c) dicts ≡ length c.rowkey = omega (arith, counted, places_counted c) in
     let last : last_mask (layout_of c) ≡ base_mask (length c.rowkey) = ap (λ (ms : List Mask). mask_at ms (length ms - 1)) s.masks ∙ last_is_base (length c.rowkey) c.groups in
     let own = rows_fit c dicts small few len flat h.0 h.1 g.1 in

@@ -13,7 +13,7 @@ use Rattle.cube_val.specs.declared.form.ColDesc.{ColDesc}
 use Rattle.cube_val.specs.declared.form.TableForm.{TableForm}
 use Rattle.cube_val.specs.declared.val.Val.{Val}
 use Rattle.flat_join.specs.Flat.{AreTablesOf}
-use Rattle.joined_rows.specs.Fits.{FitsColumn as JoinsColumn, FitsRow as JoinsRow, IsTable}
+use Rattle.flat_join.specs.Fits.{FitsColumn as JoinsColumn, FitsRow as JoinsRow, IsTable}
 use Rattle.step_codec.specs.Bodies.{FitsAllLoaded, FitsLoaded}
 use Rattle.step_fields.specs.Fits.{FitsRow}
 use Rattle.step_files.specs.Cubes.{columns_in, layout_in, layout_of, table_of, tables_of}

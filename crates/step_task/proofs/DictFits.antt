@@ -18,9 +18,9 @@ use Rattle.step_codec.specs.Bodies.{FitsHolding, holds, is_in}
 use Rattle.step_codec.specs.Layouts.{dict_form, row_limit}
 use Rattle.step_fields.specs.Fits.{FitsColumn, FitsRow}
 use Rattle.step_fields.specs.declared.column.Column.{Column}
-use Rattle.step_files.specs.Cubes.{dict_column, dict_places as form_places, distinct_places as form_distinct, flat_of as flat_columns, layout_of, no_column}
+use Rattle.cube_desc.specs.FlatRow.{dict_places}
+use Rattle.step_files.specs.Cubes.{dict_column, flat_columns, layout_of, no_column}
 use Rattle.step_files.specs.Tasks.{FitsFlat}
-use Rattle.step_compute.specs.Columns.{dict_places, distinct_places as own_distinct}
 use Rattle.step_compute.specs.Values.{dict_value, values_in}
 use Rattle.table_reader.specs.Keys.{val_at}
 use Rattle.step_task.proofs.CellFits.{put}
@@ -82,13 +82,6 @@ all_held columns rows places (row ∷ some) within =
 
 -- ---- dictionaries
 
-pub places_are : (c : Cube) → dict_places c ≡ form_places c
-unfolding own_distinct form_distinct
-places_are c = refl
-
 pub dicts_hold : (c : Cube) (flat : List (List Val)) → FitsFlat (layout_of c) flat → FitsHolding (layout_of c) row_limit flat (dict_value c flat)
 unfolding layout_of
-dicts_hold c flat h =
-    subst (λ (places : List ℕ). FitsDicts (map (dict_form row_limit) (map (dict_column (flat_columns c)) (form_places c))) (map (λ place. dictionary_of (values_in flat place)) places)
-    × (list_all (holds (map (dict_column (flat_columns c)) (form_places c)) (map (λ place. dictionary_of (values_in flat place)) places)) flat ≡ true)) (sym (places_are c))
-    (dicts_fit (flat_columns c) flat (form_places c) h.0 h.1, all_held (flat_columns c) flat (form_places c) flat (λ v place e. e))
+dicts_hold c flat h = (dicts_fit (flat_columns c) flat (dict_places c) h.0 h.1, all_held (flat_columns c) flat (dict_places c) flat (λ v place e. e))

@@ -11,7 +11,8 @@ use Rattle.measure_laws.specs.declared.measure.MeasureForm.TheVariants as measur
 use Rattle.step_codec.specs.Layouts.{cell_form}
 use Rattle.step_codec.specs.declared.layout.KeptForm.{KeptForm}
 use Rattle.step_codec.specs.declared.layout.KeptForm.TheVariants as forms
-use Rattle.step_files.specs.Cubes.{are_extremes, are_forms, dict_after, extremes_at, extremes_of, extremes_with, forms_from, is_count, is_same, kept_by, kept_of}
+use Rattle.cube_desc.specs.FlatRow.{is_count}
+use Rattle.step_files.specs.Cubes.{are_extremes, are_forms, dict_after, extremes_at, extremes_of, extremes_with, forms_from, is_same, kept_by, kept_of}
 use Rattle.step_task.proofs.GroupFits.{AreExtremes, both_parts}
 
 -- ---- measures that are kept

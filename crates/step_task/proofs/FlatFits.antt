@@ -18,14 +18,15 @@ use Rattle.cube_val.specs.declared.val.Val.{Val}
 use Rattle.cube_val.specs.declared.val.Val.TheVariants.{Null}
 use Rattle.cube_val.specs.Values.{FitsType}
 use Rattle.flat_join.specs.Flat.{flat_of, without_derived}
-use Rattle.joined_rows.specs.Joins.{fact_of, is_joined, is_match, lookups_of, match_in, matches_of, part_value, wide_row, wide_value}
+use Rattle.flat_join.specs.Joins.{fact_of, is_joined, is_match, lookups_of, match_in, matches_of, part_value, wide_row, wide_value}
 use Rattle.range_list.specs.Ranges.{Interval}
 use Rattle.step_codec.specs.Bodies.{FitsAllLoaded}
 use Rattle.step_codec.specs.Layouts.{row_limit}
 use Rattle.step_codec.specs.Tables.{TableShape}
 use Rattle.step_fields.specs.Fits.{FitsColumn, FitsRow}
 use Rattle.step_fields.specs.declared.column.Column.{Column}
-use Rattle.step_files.specs.Cubes.{column_at, columns_in, flat_of as flat_columns, layout_of, measured, no_column, no_table, table_of, tables_of}
+use Rattle.cube_desc.specs.FlatRow.{measured}
+use Rattle.step_files.specs.Cubes.{column_at, columns_in, flat_columns, layout_of, no_column, no_table, table_of, tables_of}
 use Rattle.step_files.specs.Tasks.{FitsFlat}
 use Rattle.table_reader.specs.Keys.{key_of, val_at}
 use Rattle.step_task.proofs.CubeFacts.{loaded_at, loaded_length}

@@ -37,8 +37,9 @@ use Rattle.step_codec.specs.declared.layout.DictColumn.{DictColumn}
 use Rattle.step_codec.specs.declared.layout.KeptForm.TheVariants as forms
 use Rattle.step_fields.specs.Fits.{FitsRow}
 use Rattle.step_fields.specs.declared.column.Column.{Column}
-use Rattle.step_files.specs.Cubes.{forms_from, is_count, is_same, kept_of}
-use Rattle.step_compute.specs.Columns.{agg_of, distinct_place, kind_of, place_of}
+use Rattle.cube_desc.specs.FlatRow.{distinct_place, is_count, place_of}
+use Rattle.step_files.specs.Cubes.{forms_from, is_same, kept_of}
+use Rattle.step_compute.specs.Columns.{agg_of, kind_of}
 use Rattle.table_reader.specs.Keys.{val_at}
 use Rattle.step_task.proofs.DictFits.{cell_is}
 use Rattle.step_task.proofs.ExtremeFacts.{ArePair, others}

@@ -17,12 +17,11 @@ use Rattle.cuboid_tree.specs.Tree.{is_child, is_of_layer, is_place, parent_of, p
 use Rattle.cuboid_tree.proofs.Parents.{parent_is}
 use Rattle.step_codec.specs.Bodies.{FitsHolding}
 use Rattle.step_codec.specs.Layouts.{dict_forms, is_above_layer, parent_masks}
-use Rattle.step_files.specs.Cubes.{dict_column, flat_of, dict_places as form_places, layout_of}
+use Rattle.cube_desc.specs.FlatRow.{dict_places}
+use Rattle.step_files.specs.Cubes.{dict_column, flat_columns, layout_of}
 use Rattle.step_files.proofs.ShortFacts.{each_length}
-use Rattle.step_compute.specs.Columns.{dict_places}
 use Rattle.step_compute.specs.Values.{HasParents, has_mask, is_in_layer, parent_mask}
 use Rattle.step_compute.proofs.LayerFacts.{both_true}
-use Rattle.step_task.proofs.DictFits.{places_are}
 
 -- ---- dictionaries
 
@@ -31,7 +30,7 @@ pub dicts_counted : (c : Cube) (limit : ℕ) (flat dicts : List (List Val)) → 
 unfolding layout_of
 dicts_counted c limit flat dicts h =
     each_length FitsDict (dict_forms (layout_of c) limit) dicts h.0
-    ∙ length-map (map (dict_column (flat_of c)) (form_places c)) _ ∙ length-map (form_places c) (dict_column (flat_of c)) ∙ ap length (sym (places_are c))
+    ∙ length-map (map (dict_column (flat_columns c)) (dict_places c)) _ ∙ length-map (dict_places c) (dict_column (flat_columns c))
 
 -- ---- parents
 

@@ -6,8 +6,8 @@ ghost use Rattle.cube_val.specs.declared.val.Val.{Val};
 ghost use Rattle.flat_join.specs.Flat.{AreTablesOf, flat_of};
 ghost use Rattle.measure_laws.specs.Measures.{most_items};
 ghost use Rattle.step_files.specs.Tasks.{FitsTask, is_descriptor};
+ghost use Rattle.cube_desc.specs.FlatRow.{dict_places};
 ghost use Rattle.step_task.specs.Steps.{cube_in, step_compute};
-ghost use Rattle.step_compute.specs.Columns.{dict_places};
 ghost use Rattle.step_compute.specs.Values.{HasParents, base_value, dict_value, layer_value};
 ghost use Rattle.step_compute.specs.Watched.{Looked, SawStop};
 
@@ -90,6 +90,26 @@ fn base_table<R: Threads + Sync, W: Watch>(
     base_value(rt, alloc, &desc, flat, dicts, watch)
 }
 
+// The cuboids of a layer, in one list.
+fn layer_items<R: Threads + Sync, W: Watch>(
+    rt: &R,
+    alloc: Global,
+    desc: &CubeDesc,
+    dims: u32,
+    parents: &[CellTable],
+    watch: &mut W,
+) -> Result<Items<CellTable>, StepFault>
+    requires { HasParents desc.now.cube.masks dims parents.now }
+    ensures cells { IfOk result (λ tables. tables ≡ layer_value desc.now.cube.masks dims parents.now) }
+    ensures looked { Looked W.seen W.there W.held W.place watch.old watch.new }
+    ensures stopped { IsErrOf result StepFault.Stopped → SawStop W.seen W.there watch.old watch.new }
+{
+    match layer_value(rt, alloc, desc, dims, parents, watch) {
+        Ok(tables) => Ok(Items::of(tables)),
+        Err(e) => Err(e),
+    }
+}
+
 // The cuboids of a layer.
 fn layer_tables<R: Threads + Sync, W: Watch>(
     rt: &R,
@@ -106,8 +126,87 @@ fn layer_tables<R: Threads + Sync, W: Watch>(
     ensures stopped { IsErrOf result StepFault.Stopped → SawStop W.seen W.there watch.old watch.new }
 {
     let desc = descriptor(alloc, desc)?;
-    match layer_value(rt, alloc, &desc, dims, parents, watch) {
-        Ok(tables) => Ok(Items::of(tables)),
+    layer_items(rt, alloc, &desc, dims, parents, watch)
+}
+
+// The product of a flat step.
+fn flat_product<W: Watch>(
+    alloc: Global,
+    desc: Items<u8>,
+    range: Range,
+    tables: TableSet,
+    watch: &mut W,
+) -> Result<Product, StepFault>
+    requires desc { IsTrue (is_descriptor desc) }
+    requires tables { AreTablesOf (cube_in desc) tables }
+    ensures product { IfOk result (λ p. p ≡ Product.Flat (flat_of (cube_in desc) tables range)) }
+    ensures looked { Looked W.seen W.there W.held W.place watch.old watch.new }
+    ensures stopped { IsErrOf result StepFault.Stopped → SawStop W.seen W.there watch.old watch.new }
+{
+    match flat_rows(alloc, desc.as_slice(), &range, &tables, watch) {
+        Ok(flat) => Ok(Product::Flat(flat)),
+        Err(e) => Err(e),
+    }
+}
+
+// The product of a dict step.
+fn dict_product<W: Watch>(
+    alloc: Global,
+    desc: Items<u8>,
+    flat: FlatRows,
+    watch: &mut W,
+) -> Result<Product, StepFault>
+    requires desc { IsTrue (is_descriptor desc) }
+    requires few { length flat < 2 ^ 32 }
+    ensures product { IfOk result (λ p. p ≡ Product.Dicts (dict_value (cube_in desc) flat)) }
+    ensures looked { Looked W.seen W.there W.held W.place watch.old watch.new }
+    ensures stopped { IsErrOf result StepFault.Stopped → SawStop W.seen W.there watch.old watch.new }
+{
+    match dictionaries(alloc, desc.as_slice(), &flat, watch) {
+        Ok(dicts) => Ok(Product::Dicts(dicts)),
+        Err(e) => Err(e),
+    }
+}
+
+// The product of a base step.
+fn base_product<R: Threads + Sync, W: Watch>(
+    rt: &R,
+    alloc: Global,
+    desc: Items<u8>,
+    flat: FlatRows,
+    dicts: DictSet,
+    watch: &mut W,
+) -> Result<Product, StepFault>
+    requires desc { IsTrue (is_descriptor desc) }
+    requires dicts { length dicts ≡ length (dict_places (cube_in desc)) }
+    requires few { length flat ≤ most_items }
+    ensures product { IfOk result (λ p. p ≡ Product.Base (base_value (cube_in desc) flat dicts)) }
+    ensures looked { Looked W.seen W.there W.held W.place watch.old watch.new }
+    ensures stopped { IsErrOf result StepFault.Stopped → SawStop W.seen W.there watch.old watch.new }
+{
+    match base_table(rt, alloc, desc.as_slice(), &flat, &dicts, watch) {
+        Ok(table) => Ok(Product::Base(table)),
+        Err(e) => Err(e),
+    }
+}
+
+// The product of a layer step.
+fn layer_product<R: Threads + Sync, W: Watch>(
+    rt: &R,
+    alloc: Global,
+    desc: Items<u8>,
+    dims: u32,
+    parents: Items<CellTable>,
+    watch: &mut W,
+) -> Result<Product, StepFault>
+    requires desc { IsTrue (is_descriptor desc) }
+    requires parents { HasParents (cube_in desc).masks dims parents }
+    ensures product { IfOk result (λ p. p ≡ Product.Cells (layer_value (cube_in desc).masks dims parents)) }
+    ensures looked { Looked W.seen W.there W.held W.place watch.old watch.new }
+    ensures stopped { IsErrOf result StepFault.Stopped → SawStop W.seen W.there watch.old watch.new }
+{
+    match layer_tables(rt, alloc, desc.as_slice(), dims, parents.as_slice(), watch) {
+        Ok(tables) => Ok(Product::Cells(tables)),
         Err(e) => Err(e),
     }
 }
@@ -130,29 +229,15 @@ fn made<R: Threads + Sync, W: Watch>(
             desc,
             range,
             tables,
-        } => match flat_rows(alloc, desc.as_slice(), &range, &tables, watch) {
-            Ok(flat) => Ok(Product::Flat(flat)),
-            Err(e) => Err(e),
-        },
-        Task::Dict { desc, flat } => match dictionaries(alloc, desc.as_slice(), &flat, watch) {
-            Ok(dicts) => Ok(Product::Dicts(dicts)),
-            Err(e) => Err(e),
-        },
-        Task::Base { desc, flat, dicts } => {
-            match base_table(rt, alloc, desc.as_slice(), &flat, &dicts, watch) {
-                Ok(table) => Ok(Product::Base(table)),
-                Err(e) => Err(e),
-            }
-        }
+        } => flat_product(alloc, desc, range, tables, watch),
+        Task::Dict { desc, flat } => dict_product(alloc, desc, flat, watch),
+        Task::Base { desc, flat, dicts } => base_product(rt, alloc, desc, flat, dicts, watch),
         Task::Layer {
             desc,
             dims,
             sizes: _,
             parents,
-        } => match layer_tables(rt, alloc, desc.as_slice(), dims, parents.as_slice(), watch) {
-            Ok(tables) => Ok(Product::Cells(tables)),
-            Err(e) => Err(e),
-        },
+        } => layer_product(rt, alloc, desc, dims, parents, watch),
         Task::Seal(seal) => Ok(Product::Seal(seal)),
     }
 }

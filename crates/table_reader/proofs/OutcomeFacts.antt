@@ -11,7 +11,8 @@ use Rattle.table_reader.specs.Keys.{HasDistinctKeys, Repeats}
 use Rattle.table_reader.specs.Laws.{IsOutcome}
 use Rattle.table_reader.specs.Records.{BeginsWith, HasRecords}
 use Rattle.table_reader.specs.Rows.{IsCellFault, IsFirstCellFault, IsRecordFault, IsRowOf, WritesCell, WritesRow, field_of}
-use Rattle.table_reader.specs.Tables.{AreRowsOf, HasHeaderFault, HasRowFault, IsFaultAfter, IsFaultOf, IsTableOf, most_rows}
+use Rattle.cube_val.specs.Limits.{row_limit}
+use Rattle.table_reader.specs.Tables.{AreRowsOf, HasHeaderFault, HasRowFault, IsFaultAfter, IsFaultOf, IsTableOf}
 use Rattle.table_reader.specs.declared.fault.TableFault.{TableFault}
 use Rattle.table_reader.specs.declared.fault.TableKind.{TableKind}
 use Rattle.table_reader.specs.declared.fault.TableKind.TheVariants as kind
@@ -73,7 +74,7 @@ no_fault_before form header front fields rest rows before fault all some at_faul
     let same : parts.0 ≡ before = zip_one (IsRowOf columns width) (one_row columns width) front parts.0 before parts.4 some.written in
     let is : rows ≡ before ++ parts.1 ∷ parts.2 = parts.3 ∙ ap (λ (zs : List (List Val)). zs ++ parts.1 ∷ parts.2) same in
     let size : length rows ≡ length before + length (parts.1 ∷ parts.2) = ap length is ∙ length-append before (parts.1 ∷ parts.2) in
-    let short : length before < most_rows = omega (arith, all.few, size) in
+    let short : length before < row_limit = omega (arith, all.few, size) in
     elim at_fault [
       | inl t ↦ absurd (omega (arith, short, t.0))
       | inr t ↦ elim t [

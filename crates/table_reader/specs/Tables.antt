@@ -1,6 +1,7 @@
 -- The table files of a form, and the first fault of every other file.
 use Rattle.std.specs.Prelude.{◌≡◌, ◌≤◌, ◌<◌, ◌+◌, ◌∷◌, ◌++◌, ◌⊎◌, ℕ, List, [], Some, None, length}
 use Rattle.std.specs.List.{AllZip}
+use Rattle.cube_val.specs.Limits.{row_limit}
 use Rattle.cube_val.specs.declared.form.TableForm.{TableForm}
 use Rattle.cube_val.specs.declared.val.Val.{Val}
 use Rattle.table_reader.specs.Columns.{columns_of, header_fault}
@@ -11,14 +12,10 @@ use Rattle.table_reader.specs.Rows.{IsRecordFault, IsRowOf}
 use Rattle.table_reader.specs.declared.fault.TableFault.{TableFault}
 use Rattle.table_reader.specs.declared.fault.TableKind.TheVariants as kind
 
--- the most rows of a table
-abbrev pub most_rows : ℕ
-most_rows = 200_000
-
 -- the records after the header write the rows, which are not too many and repeat no key
 pub record AreRowsOf (form : TableForm) (header : List (List ℕ)) (records : List (List (List ℕ))) (rows : List (List Val)) : Type 0 where
   pub written : AllZip (IsRowOf (columns_of form header) (length header)) records rows
-  pub few : length rows ≤ most_rows
+  pub few : length rows ≤ row_limit
   pub distinct : HasDistinctKeys form.key rows
 
 -- a file is a table of the form, with these rows
@@ -34,7 +31,7 @@ abbrev pub no_header : TableFault
 no_header = fault_in 0 kind.NoHeader
 
 abbrev pub too_many_rows : TableFault
-too_many_rows = fault_in 200_001 kind.TooManyRows
+too_many_rows = fault_in (row_limit + 1) kind.TooManyRows
 
 abbrev pub duplicate_key : ℕ → TableFault
 duplicate_key row_number = fault_in row_number kind.DuplicateKey
@@ -43,9 +40,9 @@ duplicate_key row_number = fault_in row_number kind.DuplicateKey
 -- is wrong with it by itself, or that it repeats a key
 abbrev pub IsFaultAfter : TableForm → List (List ℕ) → List (List Val) → List (List ℕ) → TableFault → Type 0
 IsFaultAfter form header rows fields fault =
-    ((length rows ≡ most_rows) × (fault ≡ too_many_rows))
-    ⊎ ((length rows < most_rows) × IsRecordFault (columns_of form header) (length header) (length rows + 1) fields fault)
-    ⊎ ((length rows < most_rows) × (row : List Val) × IsRowOf (columns_of form header) (length header) fields row
+    ((length rows ≡ row_limit) × (fault ≡ too_many_rows))
+    ⊎ ((length rows < row_limit) × IsRecordFault (columns_of form header) (length header) (length rows + 1) fields fault)
+    ⊎ ((length rows < row_limit) × (row : List Val) × IsRowOf (columns_of form header) (length header) fields row
     × Repeats form.key rows row × (fault ≡ duplicate_key (length rows + 1)))
 
 -- the header of a file has this as its first fault

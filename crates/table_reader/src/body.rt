@@ -9,11 +9,8 @@ use crate::header::Column;
 use crate::records::read_next;
 use crate::row::read_row;
 use csv::{ByteRecord, Reader};
-use cube_val::Row;
+use cube_val::{ROW_LIMIT, Row};
 use std::alloc::{AllocError, Global};
-
-/// The most rows of a table.
-const MOST_ROWS: u32 = 200_000;
 
 /// The rows up to the end of a file, or up to the first record that has a fault by itself, and then that fault.
 #[derive(Drop)]
@@ -34,7 +31,7 @@ pub fn read_body(
         → IsBodyOf columns.now width bytes header body.rows.items body.fault) }
 {
     let mut rows = Vec::new(alloc);
-    for turn in 0..MOST_ROWS {
+    for turn in 0..ROW_LIMIT {
         match read_next(reader, found) {
             Ok(true) => {}
             Ok(false) => return Ok(Body { rows, fault: None }),
@@ -54,7 +51,7 @@ pub fn read_body(
     }
     match read_next(reader, found) {
         Ok(true) => {
-            let fault = TableFault::in_row(MOST_ROWS + 1, TableKind::TooManyRows);
+            let fault = TableFault::in_row(ROW_LIMIT + 1, TableKind::TooManyRows);
             Ok(Body {
                 rows,
                 fault: Some(fault),

@@ -32,6 +32,3 @@ pub use fault::{TableFault, TableKind, TableRefusal};
 pub use key::first_repeated;
 pub use laws::files_have_one_outcome;
 pub use table::{read_rows, read_table};
-
-#[cfg(test)]
-mod tests;

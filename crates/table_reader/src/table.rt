@@ -2,11 +2,12 @@
 
 ghost use Rattle.std.specs.Prelude.{None, ◌≡◌, ◌<◌, ◌≤◌, ◌∷◌, [], ℕ, List, All, Err, IfOk, OnOk, length};
 ghost use Rattle.csv.specs.Records.{fields_of};
+ghost use Rattle.cube_val.specs.Limits.{row_limit};
 ghost use Rattle.table_reader.specs.Bodies.{IsBodyOf};
 ghost use Rattle.table_reader.specs.Columns.{columns_of, header_fault};
 ghost use Rattle.table_reader.specs.Keys.{AreWithin};
 ghost use Rattle.table_reader.specs.Reads.{HasRead};
-ghost use Rattle.table_reader.specs.Tables.{IsFaultOf, IsTableOf, most_rows};
+ghost use Rattle.table_reader.specs.Tables.{IsFaultOf, IsTableOf};
 ghost use Rattle.table_reader.specs.declared.fault.TableFault.{TableFault};
 
 use crate::body::{Body, read_body};
@@ -44,7 +45,7 @@ fn read_header(
 // The rows, or the first fault: that of a repeated key comes before the one at which reading ended.
 fn judge(alloc: Global, form: &TableForm, body: Body) -> Result<Vec<Row>, TableRefusal>
     requires within { All (AreWithin form.now.key) body.rows.items }
-    requires few { length body.rows.items ≤ most_rows }
+    requires few { length body.rows.items ≤ row_limit }
     ensures ok { IfOk result (λ rows. (bytes : List ℕ) (header : List (List ℕ)) → header_fault form.now.cols header ≡ None
         → IsBodyOf (columns_of form.now header) (length header) bytes header body.rows.items body.fault → IsTableOf form.now bytes rows.items) }
     ensures fault { (f : TableFault) → result ≡ Err (TableRefusal.Fault f) → (bytes : List ℕ) (header : List (List ℕ)) → header_fault form.now.cols header ≡ None

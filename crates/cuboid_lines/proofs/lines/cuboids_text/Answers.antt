@@ -9,7 +9,7 @@ use Rattle.cuboid_lines.proofs.lines.cuboids_text.Goals as goal
 
 pub build-requires : goal.build-requires
 build-requires c =
-    let span = masks_span c.args.desc.now.source c.args.desc.now.cube c.parts-cube.ensures.read in
+    let span = masks_span c.args.desc.now.cube c.parts-cube.ensures.sound in
     let masks : c.as_slice.result.now ≡ c.args.desc.now.cube.masks =
     (let inside = ap (λ (k : Cube). k.masks) c.cube.view_is in
     let value = ap (λ (k : Cube). k.masks) c.parts-cube.ensures.value in

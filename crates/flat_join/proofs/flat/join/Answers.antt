@@ -2,7 +2,7 @@ use Rattle.std.proofs.Common.{◌≡◌, List, length, ap, subst, ◌∙◌, sym
 use Rattle.cube_val.specs.declared.form.JoinPlan.{JoinPlan}
 use Rattle.cube_val.specs.declared.form.JoinStep.{JoinStep}
 use Rattle.cube_desc.specs.Cube.{Cube}
-use Rattle.joined_rows.specs.Joins.{joined_by, lookups_of}
+use Rattle.flat_join.specs.Joins.{joined_by, lookups_of}
 use Rattle.flat_join.proofs.FlatFacts.{flat_is, first_table, lookup_count}
 use Rattle.flat_join.proofs.ServeFacts.{served_length}
 use Rattle.flat_join.specs.Flat.{without_derived}

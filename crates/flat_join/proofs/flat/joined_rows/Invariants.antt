@@ -1,5 +1,5 @@
 use Rattle.std.proofs.Common.{◌≡◌, take}
-use Rattle.joined_rows.specs.Joins.{joined_by}
+use Rattle.flat_join.specs.Joins.{joined_by}
 use Rattle.flat_join.specs.Partners.{found_in}
 use Rattle.flat_join.proofs.flat.joined_rows.Given as goal
 

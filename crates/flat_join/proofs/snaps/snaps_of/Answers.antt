@@ -2,7 +2,7 @@ use Rattle.std.proofs.Common.{◌≡◌, ◌+◌, ℕ, suc, Some, length, get_or
 use Rattle.std.specs.Prelude.{slice_get}
 use Rattle.cube_val.specs.declared.form.JoinStep.{JoinStep}
 use Rattle.cube_desc.specs.Cube.{Cube}
-use Rattle.joined_rows.specs.Joins.{lookups_of}
+use Rattle.flat_join.specs.Joins.{lookups_of}
 use Rattle.flat_join.proofs.FlatFacts.{lookup_ready, lookup_count, later_table}
 use Rattle.flat_join.proofs.ServeFacts.{served_pushed}
 use Rattle.flat_join.proofs.snaps.snaps_of.Goals as goal

@@ -1,5 +1,5 @@
 use Rattle.std.proofs.Common.{take}
-use Rattle.joined_rows.specs.Joins.{lookups_of}
+use Rattle.flat_join.specs.Joins.{lookups_of}
 use Rattle.flat_join.specs.Partners.{AreServed}
 use Rattle.flat_join.proofs.snaps.snaps_of.Given as goal
 

@@ -1,5 +1,5 @@
 use Rattle.std.proofs.Common.{◌≡◌, take}
-use Rattle.joined_rows.specs.Joins.{wide_row}
+use Rattle.flat_join.specs.Joins.{wide_row}
 use Rattle.flat_join.proofs.wide.wide_row.Given as goal
 
 abbrev pub invariant-loop-column : goal.invariant-loop-column

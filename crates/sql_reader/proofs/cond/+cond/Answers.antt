@@ -1,18 +1,19 @@
 use Rattle.std.proofs.Common.{sym}
 use Rattle.sql_tokens.specs.declared.kind.Kind.TheVariants as k
 use Rattle.sql_reader.specs.declared.tree.SqlCond.TheVariants as conds
+use Rattle.sql_reader.proofs.Exact.{of_after}
 use Rattle.sql_reader.proofs.Levels.{exact_neg, exact_conj}
-use Rattle.sql_reader.proofs.Loops.{goes_on, less}
+use Rattle.sql_reader.proofs.Loops.{goes_on_after, shorter}
 use Rattle.sql_reader.proofs.cond.+cond.Goals as goal
 
 pub conj-ands-smaller : goal.conj-ands-smaller
-conj-ands-smaller t c = less (exact_neg c.args.depth) k.And c.ands.rest.now _ _ _ _ c.in_ok-after.ensures c.in_ok-next.ensures
+conj-ands-smaller t c = shorter (of_after k.And (exact_neg c.args.depth)) c.ands.rest.now _ _ c.in_ok-next.ensures
 
 pub conj-ands-preserved : goal.conj-ands-preserved
-conj-ands-preserved t c = rw (c.in_ok-new.ensures, c.in_ok-new-2.ensures) (goes_on (exact_neg c.args.depth) k.And conds.And c.ands.all c.ands.rest.now _ _ _ _ _ (sym c.ands-test.ensures) c.in_ok-after.ensures c.in_ok-next.ensures c.ands.invariant)
+conj-ands-preserved t c = rw c.in_ok-all-2.ensures (goes_on_after (exact_neg c.args.depth) k.And conds.And c.ands.all c.ands.rest.now _ _ _ (sym c.ands-test.ensures) c.in_ok-next.ensures c.ands.invariant)
 
 pub disj-ors-smaller : goal.disj-ors-smaller
-disj-ors-smaller t c = less (exact_conj c.args.depth) k.Or c.ors.rest.now _ _ _ _ c.in_ok-after.ensures c.in_ok-next.ensures
+disj-ors-smaller t c = shorter (of_after k.Or (exact_conj c.args.depth)) c.ors.rest.now _ _ c.in_ok-next.ensures
 
 pub disj-ors-preserved : goal.disj-ors-preserved
-disj-ors-preserved t c = rw (c.in_ok-new.ensures, c.in_ok-new-2.ensures) (goes_on (exact_conj c.args.depth) k.Or conds.Or c.ors.all c.ors.rest.now _ _ _ _ _ (sym c.ors-test.ensures) c.in_ok-after.ensures c.in_ok-next.ensures c.ors.invariant)
+disj-ors-preserved t c = rw c.in_ok-all-2.ensures (goes_on_after (exact_conj c.args.depth) k.Or conds.Or c.ors.all c.ors.rest.now _ _ _ (sym c.ors-test.ensures) c.in_ok-next.ensures c.ors.invariant)

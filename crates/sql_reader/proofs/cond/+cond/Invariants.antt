@@ -7,13 +7,25 @@ use Rattle.sql_reader.proofs.Loops.{gathered}
 use Rattle.sql_reader.proofs.cond.+cond.Given as goal
 
 abbrev pub decreases-conj : goal.decreases-conj
-decreases-conj l = 3 * l.depth + 1
+decreases-conj l = 6 * l.depth + 2
 
 abbrev pub decreases-disj : goal.decreases-disj
-decreases-disj l = 3 * l.depth + 2
+decreases-disj l = 6 * l.depth + 4
 
 abbrev pub decreases-neg : goal.decreases-neg
-decreases-neg l = 3 * l.depth
+decreases-neg l = 6 * l.depth
+
+abbrev pub decreases-and_neg : goal.decreases-and_neg
+decreases-and_neg l = 6 * l.depth + 1
+
+abbrev pub decreases-or_conj : goal.decreases-or_conj
+decreases-or_conj l = 6 * l.depth + 3
+
+abbrev pub decreases-not_neg : goal.decreases-not_neg
+decreases-not_neg l = 6 * l.depth + 5
+
+abbrev pub decreases-nested : goal.decreases-nested
+decreases-nested l = 6 * l.depth + 5
 
 abbrev pub invariant-conj-ands : goal.invariant-conj-ands
 invariant-conj-ands l = gathered conds.And l.all (read_many (k.And ∷ []) (read_after k.And (read_neg l.depth)) l.rest) ≡ read_conj (read_neg l.depth) l.tokens

@@ -4,7 +4,8 @@ use Rattle.calendar.specs.Dates.{day_number, day_of, day_with}
 use Rattle.agg_group.specs.Mask.{count_of}
 use Rattle.agg_group.specs.Sets.{is_subset}
 use Rattle.cell_gather.specs.Keys.{dims_of}
-use Rattle.step_compute.specs.Columns.{distinct_places, kept_aggs}
+use Rattle.cube_desc.specs.FlatRow.{distinct_places}
+use Rattle.step_compute.specs.Columns.{kept_aggs}
 use Rattle.step_compute.proofs.examples.worked_examples.Goals as goal
 
 pub returns-clause-flat : goal.returns-clause-flat

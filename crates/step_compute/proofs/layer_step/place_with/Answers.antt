@@ -3,7 +3,7 @@ use Rattle.std.specs.Prelude.{unwrap_or}
 use Rattle.std.proofs.lemmas.Iterator.{YieldsList-from_slice}
 use Rattle.std.proofs.lemmas.Iterator.Search.{position_from_yields_List}
 use Rattle.step_compute.specs.Values.{has_mask}
-use Rattle.step_compute.proofs.ColumnFacts.{place_or_len}
+use Rattle.cube_desc.proofs.FlatRowFacts.{place_or_len}
 use Rattle.step_compute.proofs.layer_step.place_with.Goals as goal
 
 pub returns : goal.returns

@@ -1,6 +1,6 @@
 use Rattle.std.proofs.Common.{◌≡◌, ◌∙◌, List, ℕ, subst}
 use Rattle.std.specs.Prelude.{IfOk}
-use Rattle.sealed_frame.specs.Frames.{frame_text}
+use Rattle.byte_frame.specs.Frames.{frame_text}
 use Rattle.step_files.specs.Files.{frame_with}
 use Rattle.step_files.proofs.files.product_file.Goals as goal
 

@@ -1,6 +1,6 @@
 use Rattle.std.proofs.Common.{◌∙◌, Option, ap}
 use Rattle.byte_frame.specs.Reading.{◌>>=◌}
-use Rattle.sealed_frame.specs.Frames.{Frame}
+use Rattle.byte_frame.specs.Frames.{Frame}
 use Rattle.step_files.specs.Files.{body_in}
 use Rattle.step_files.proofs.files.take_body.Goals as goal
 

@@ -1,6 +1,7 @@
 use Rattle.std.proofs.Common.{◌≡◌, not, take}
 use Rattle.std.specs.Prelude.{filter, map}
-use Rattle.step_files.specs.Cubes.{is_count, kept_of}
+use Rattle.cube_desc.specs.FlatRow.{is_count}
+use Rattle.step_files.specs.Cubes.{kept_of}
 use Rattle.step_files.proofs.measures.kept_measures.Given as goal
 
 abbrev pub invariant-loop-measure : goal.invariant-loop-measure

@@ -1,2 +1,0 @@
-pub mod FitFacts
-pub mod JoinFacts

@@ -1,4 +1,0 @@
-pub mod Examples
-pub mod Fits
-pub mod Joins
-pub mod Laws

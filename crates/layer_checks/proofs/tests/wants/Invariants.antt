@@ -1,6 +1,0 @@
-use Rattle.std.specs.Prelude.{All}
-use Rattle.layer_builder.specs.Layers.{HasParent}
-use Rattle.layer_checks.proofs.tests.wants.Given as goal
-
-abbrev pub invariant-loop-number : goal.invariant-loop-number
-invariant-loop-number l = All (HasParent l.parents) l.wants.items

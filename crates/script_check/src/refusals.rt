@@ -1,0 +1,77 @@
+// Why a command is refused, by its word.
+
+use calendar::Day;
+use check_lines::{Words, unknown_line};
+use cube_val::NameText;
+use job_machine::{JobKind, JobState};
+use range_list::Range;
+use script_text::Refused;
+use std::alloc::Global;
+use std::io;
+
+/// The name that the next word is.
+pub(crate) fn name(alloc: Global, words: &mut Words<'_>) -> io::Result<NameText> {
+    let word = words.next()?;
+    Ok(NameText::new(alloc, word.as_bytes())?)
+}
+
+// The day that the next word is.
+fn day(words: &mut Words<'_>) -> io::Result<Day> {
+    let word = words.next()?;
+    match Day::read(word.as_bytes()) {
+        Some(day) => Ok(day),
+        None => Err(unknown_line()),
+    }
+}
+
+/// The range that the next two words are.
+pub(crate) fn range(words: &mut Words<'_>) -> io::Result<Range> {
+    let start = day(words)?;
+    let end = day(words)?;
+    match Range::new(start, end) {
+        Some(range) => Ok(range),
+        None => Err(unknown_line()),
+    }
+}
+
+/// The state that the next word is.
+pub(crate) fn state(words: &mut Words<'_>) -> io::Result<JobState> {
+    match words.next()? {
+        "PENDING" => Ok(JobState::Pending),
+        "RUNNING" => Ok(JobState::Running),
+        "ERROR" => Ok(JobState::Error),
+        "STOPPED" => Ok(JobState::Stopped),
+        "DISCARDED" => Ok(JobState::Discarded),
+        "FINISHED" => Ok(JobState::Finished),
+        _ => Err(unknown_line()),
+    }
+}
+
+/// The kind of job that the next word is.
+pub(crate) fn kind(words: &mut Words<'_>) -> io::Result<JobKind> {
+    match words.next()? {
+        "BUILD" => Ok(JobKind::Build),
+        "REFRESH" => Ok(JobKind::Refresh),
+        "MERGE" => Ok(JobKind::Merge),
+        _ => Err(unknown_line()),
+    }
+}
+
+/// The refusal that the words are.
+pub(crate) fn refused(alloc: Global, words: &mut Words<'_>) -> io::Result<Refused> {
+    match words.next()? {
+        "NotLoaded" => Ok(Refused::NotLoaded(name(alloc, words)?)),
+        "TooManySegments" => Ok(Refused::TooManySegments),
+        "OverlapsSegment" => Ok(Refused::OverlapsSegment(range(words)?)),
+        "OverlapsJob" => Ok(Refused::OverlapsJob(words.number()?)),
+        "NoSuchSegment" => Ok(Refused::NoSuchSegment),
+        "NotOnBounds" => Ok(Refused::NotOnBounds),
+        "OneSegment" => Ok(Refused::OneSegment),
+        "Hole" => Ok(Refused::Hole(day(words)?)),
+        "LookupsDiffer" => Ok(Refused::LookupsDiffer(name(alloc, words)?)),
+        "NoSuchJob" => Ok(Refused::NoSuchJob(words.number()?)),
+        "JobEnded" => Ok(Refused::JobEnded(state(words)?)),
+        "WrongState" => Ok(Refused::WrongState(state(words)?)),
+        _ => Err(unknown_line()),
+    }
+}

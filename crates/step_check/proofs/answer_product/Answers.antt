@@ -1,5 +1,0 @@
-use Rattle.step_files.proofs.ShortFacts.{product_short}
-use Rattle.step_check.proofs.answer_product.Goals as goal
-
-pub product_file-requires : goal.product_file-requires
-product_file-requires g c = product_short c.args.task.now c.args.product.now c.requires.task c.requires.product

@@ -1,7 +1,0 @@
-use Rattle.std.proofs.Common.{◌≡◌, take}
-use Rattle.std.specs.List.{filter_map}
-use Rattle.step_files.specs.Cubes.{distinct_place}
-use Rattle.step_files.proofs.cube.distinct_places.Given as goal
-
-abbrev pub invariant-loop-measure : goal.invariant-loop-measure
-invariant-loop-measure l = l.places.items ≡ filter_map (distinct_place l.cube) (take l.measure-index l.measure-items)
