@@ -161,13 +161,14 @@ class Tree:
             linked(f"{TOP}/crates/{name}/out/rlib", f"{self.folder}/crates/{name}/out/rlib")
             self.has.add(name)
 
-    def begin(self, crates, name):
+    def begin(self, crates, name, processors):
+        """Begins to build a crate by so many processors, over the libraries of the repository's own tree."""
         for it in below(crates, name)[:-1]:
             self.take(it)
         self.name, self.log = name, open(f"{ROOM}/{name}.log", "w", encoding="utf-8")
         self.since = time.time()
         self.run = subprocess.Popen(
-            ["rt", "lib", "--jobs", "1"],
+            ["rt", "lib", "--jobs", str(processors)],
             cwd=f"{self.folder}/crates/{name}",
             stdin=subprocess.DEVNULL,
             stdout=self.log,
@@ -252,14 +253,15 @@ def built_all(crates, names, left, trees, plan, progress):
     cost, order, rest_of = plan
     waiting, idle, at_work, speed = set(left), list(trees), [], [0.0, 0.0]
     while left or at_work:
-        ready = [it for it in left if not any(dep in waiting for dep in crates[it])]
-        for name in sorted(ready, key=lambda it: -order[it]):
-            if not idle:
-                break
+        ready = sorted((it for it in left if not any(dep in waiting for dep in crates[it])), key=lambda it: -order[it])
+        # Processors for which there is no crate help with the first of those that begin now.
+        spare = max(0, len(idle) - len(ready))
+        for name in ready[: len(idle)]:
             tree = idle.pop()
             left.remove(name)
-            tree.begin(crates, name)
+            tree.begin(crates, name, 1 + spare)
             at_work.append(tree)
+            spare = 0
         time.sleep(0.2)
         for tree in [it for it in at_work if it.run.poll() is not None]:
             at_work.remove(tree)
