@@ -30,6 +30,15 @@ struct Described {
     layout: Layout,
 }
 
+impl Described {
+    // The bytes alone.
+    fn into_desc(self) -> Items<u8>
+        ensures { result ≡ self.desc }
+    {
+        self.desc
+    }
+}
+
 /// What the step files of the cube that the bytes describe are read by; `Malformed` exactly where they describe none.
 pub(crate) fn read_layout(alloc: Global, bytes: &[u8]) -> Result<Layout, ReadError>
     ensures desc { Gives (λ _. bytes.now) result (if is_descriptor bytes.now then Some bytes.now else None) }
@@ -116,9 +125,8 @@ fn read_flat_task(alloc: Global, r: &mut FieldReader) -> Result<Task, ReadError>
         Ok(tables) => tables,
         Err(e) => return Err(e),
     };
-    let Described { desc, layout: _ } = cube;
     Ok(Task::Flat {
-        desc,
+        desc: cube.into_desc(),
         range,
         tables,
     })
@@ -137,8 +145,10 @@ fn read_dict_task(alloc: Global, r: &mut FieldReader) -> Result<Task, ReadError>
         Ok(flat) => flat,
         Err(e) => return Err(e),
     };
-    let Described { desc, layout: _ } = cube;
-    Ok(Task::Dict { desc, flat })
+    Ok(Task::Dict {
+        desc: cube.into_desc(),
+        flat,
+    })
 }
 
 // Flat rows, and dictionaries that hold their values.
@@ -180,9 +190,12 @@ fn read_base_task(alloc: Global, r: &mut FieldReader) -> Result<Task, ReadError>
         Ok(work) => work,
         Err(e) => return Err(e),
     };
-    let Described { desc, layout: _ } = cube;
     let BaseWork { flat, dicts } = work;
-    Ok(Task::Base { desc, flat, dicts })
+    Ok(Task::Base {
+        desc: cube.into_desc(),
+        flat,
+        dicts,
+    })
 }
 
 // What a layer step works on.
@@ -198,14 +211,13 @@ fn read_layer_task(alloc: Global, r: &mut FieldReader) -> Result<Task, ReadError
         Ok(work) => work,
         Err(e) => return Err(e),
     };
-    let Described { desc, layout: _ } = cube;
     let LayerWork {
         dims,
         sizes,
         parents,
     } = work;
     Ok(Task::Layer {
-        desc,
+        desc: cube.into_desc(),
         dims,
         sizes,
         parents,

@@ -10,5 +10,5 @@ returns-in-Err-read_base_work c =
 
 pub returns : goal.returns
 returns c =
-    base_given c.args.r.now c.take_desc.new.r c.in-Ok.cube.desc c.in-Ok.ensures.desc c.in-Ok.cube.layout c.in-Ok.ensures.layout
-    c.in-Ok-read_base_work.work.flat c.in-Ok-read_base_work.work.dicts c.read_base_work.new.r c.in-Ok-read_base_work.ensures
+    rw c.into_desc.ensures (base_given c.args.r.now c.take_desc.new.r c.in-Ok.cube.desc c.in-Ok.ensures.desc c.in-Ok.cube.layout c.in-Ok.ensures.layout
+    c.in-Ok-read_base_work.work.flat c.in-Ok-read_base_work.work.dicts c.read_base_work.new.r c.in-Ok-read_base_work.ensures)

@@ -13,5 +13,5 @@ returns-in-Err-read_flat c =
 
 pub returns : goal.returns
 returns c =
-    dict_given c.args.r.now c.take_desc.new.r c.in-Ok.cube.desc c.in-Ok.ensures.desc c.as_slice.result.now (c.as_slice.ensures ∙ ap (λ (l : Layout). l.flat) c.in-Ok.ensures.layout)
-    c.in-Ok-read_flat.flat c.read_flat.new.r c.in-Ok-read_flat.ensures
+    rw c.into_desc.ensures (dict_given c.args.r.now c.take_desc.new.r c.in-Ok.cube.desc c.in-Ok.ensures.desc c.as_slice.result.now (c.as_slice.ensures ∙ ap (λ (l : Layout). l.flat) c.in-Ok.ensures.layout)
+    c.in-Ok-read_flat.flat c.read_flat.new.r c.in-Ok-read_flat.ensures)

@@ -14,5 +14,5 @@ returns-in-Err-read_loaded c =
 
 pub returns : goal.returns
 returns c =
-    flat_given c.args.r.now c.take_desc.new.r c.in-Ok.cube.desc c.in-Ok.ensures.desc c.in-Ok.cube.layout c.in-Ok.ensures.layout c.in-Ok-read_range.range c.read_range.new.r c.in-Ok-read_range.ensures
-    c.in-Ok-read_loaded.tables c.read_loaded.new.r c.in-Ok-read_loaded.ensures
+    rw c.into_desc.ensures (flat_given c.args.r.now c.take_desc.new.r c.in-Ok.cube.desc c.in-Ok.ensures.desc c.in-Ok.cube.layout c.in-Ok.ensures.layout c.in-Ok-read_range.range c.read_range.new.r c.in-Ok-read_range.ensures
+    c.in-Ok-read_loaded.tables c.read_loaded.new.r c.in-Ok-read_loaded.ensures)

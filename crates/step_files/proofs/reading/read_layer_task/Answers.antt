@@ -13,5 +13,5 @@ returns-in-Err-read_layer c =
 
 pub returns : goal.returns
 returns c =
-    layer_given c.args.r.now c.take_desc.new.r c.in-Ok.cube.desc c.in-Ok.ensures.desc c.in-Ok.cube.layout c.in-Ok.ensures.layout
-    c.in-Ok-read_layer.work.dims c.in-Ok-read_layer.work.sizes c.in-Ok-read_layer.work.parents c.read_layer.new.r c.in-Ok-read_layer.ensures
+    rw c.into_desc.ensures (layer_given c.args.r.now c.take_desc.new.r c.in-Ok.cube.desc c.in-Ok.ensures.desc c.in-Ok.cube.layout c.in-Ok.ensures.layout
+    c.in-Ok-read_layer.work.dims c.in-Ok-read_layer.work.sizes c.in-Ok-read_layer.work.parents c.read_layer.new.r c.in-Ok-read_layer.ensures)
