@@ -12,6 +12,7 @@ import os
 import re
 import resource
 import shutil
+import signal
 import subprocess
 import sys
 import tempfile
@@ -97,19 +98,7 @@ def edits_of(clone, name):
     return sum(it.endswith(".edit") for it in os.listdir(folder)) if os.path.isdir(folder) else 0
 
 
-def measure():
-    room = tempfile.mkdtemp(prefix="gate-")
-    clone, log = f"{room}/clone", f"{room}/log"
-    subprocess.run(["git", "clone", "-q", TOP, clone], check=True)
-    began = time.time()
-    with open(log, "w", encoding="utf-8") as said:
-        run = subprocess.Popen(["rt", "ci", "--anew"], cwd=clone, stdin=subprocess.DEVNULL, stdout=said, stderr=said)
-        sampler = Sampler(run.pid)
-        while run.poll() is None:
-            sampler.look()
-            time.sleep(0.5)
-    wall, took = time.time() - began, resource.getrusage(resource.RUSAGE_CHILDREN)
-    rows = sampler.rows()
+def write(rows, took, clone):
     laid = sum(it[kind] for it in rows.values() for kind in ("proof", "tests", "edits"))
     with open(FIGURES, "w", encoding="utf-8", newline="") as file:
         out = csv.writer(file, lineterminator="\n")
@@ -117,7 +106,27 @@ def measure():
         for name, row in sorted(rows.items()):
             figures = [round(row[it]) for it in ("proof", "tests", "edits")]
             out.writerow([name, *figures, edits_of(clone, name), lines_of(clone, name), row["memory"]])
-        out.writerow(["-", round(took.ru_utime + took.ru_stime - laid), 0, 0, 0, 0, 0])
+        out.writerow(["-", round(took - laid), 0, 0, 0, 0, 0])
+
+
+def measure():
+    room = tempfile.mkdtemp(prefix="gate-")
+    clone, log = f"{room}/clone", f"{room}/log"
+    subprocess.run(["git", "clone", "-q", TOP, clone], check=True)
+    began = time.time()
+    with open(log, "w", encoding="utf-8") as said:
+        run = subprocess.Popen(["rt", "ci", "--anew"], cwd=clone, stdin=subprocess.DEVNULL, stdout=said, stderr=said, start_new_session=True)
+        sampler = Sampler(run.pid)
+        try:
+            while run.poll() is None:
+                sampler.look()
+                time.sleep(0.5)
+        except KeyboardInterrupt:
+            # What was measured so far is written all the same.
+            os.killpg(run.pid, signal.SIGTERM)
+            run.wait()
+    wall, took = time.time() - began, resource.getrusage(resource.RUSAGE_CHILDREN)
+    write(sampler.rows(), took.ru_utime + took.ru_stime, clone)
     said = text_of(log).decode(errors="replace").strip().split("\n")
     commit = subprocess.run(["git", "-C", TOP, "describe", "--always"], stdout=subprocess.PIPE, text=True, check=True).stdout.strip()
     processors = len(os.sched_getaffinity(0))
