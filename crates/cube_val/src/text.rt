@@ -8,6 +8,7 @@ ghost use Rattle.std.specs.Cmp.Lexicographic.{slice_cmp};
 ghost use Rattle.std.specs.Ordering.{nat_cmp, as_partial_cmp};
 ghost use lib.Pointwise.{pointwise};
 ghost use Rattle.std.specs.Str.{IsAscii, IsUtf8};
+ghost use Rattle.calendar.specs.Dates.{IsDate};
 ghost use Rattle.cube_val.specs.Stored.{inline_len, stored_bytes};
 ghost use Rattle.cube_val.specs.Texts.{IsText};
 
@@ -126,6 +127,17 @@ impl TextVal {
         match Stored::of(alloc, bytes) {
             Ok(stored) => Ok(TextVal { stored }),
             Err(_) => Err(ReadVal::Memory),
+        }
+    }
+
+    /// The text of a date, which is kept without an allocation.
+    #[tactic(auto, using(crate::proofs::Dates::date_is_text, crate::proofs::Dates::date_is_short))]
+    pub(crate) fn of_date(bytes: &[u8]) -> TextVal
+        requires { IsDate bytes.now }
+        ensures { result ≡ bytes.now }
+    {
+        TextVal {
+            stored: inline(bytes),
         }
     }
 

@@ -19,18 +19,19 @@ pub struct Body {
     pub fault: Option<TableFault>,
 }
 
-/// Reads the records after the header, which has `width` fields.
+/// Reads the records after the header, which has `width` fields. Memory is reserved for `room` rows at first.
 pub fn read_body(
     alloc: Global,
     columns: &[Column],
     width: usize,
+    room: usize,
     reader: &mut Reader<&[u8]>,
     found: &mut ByteRecord,
 ) -> Result<Body, AllocError>
     ensures { IfOk result (λ body. (bytes : List ℕ) (header : List (List ℕ)) → HasRead bytes (header ∷ []) reader.old
         → IsBodyOf columns.now width bytes header body.rows.items body.fault) }
 {
-    let mut rows = Vec::new(alloc);
+    let mut rows = Vec::with_capacity(alloc, room)?;
     for turn in 0..ROW_LIMIT {
         match read_next(reader, found) {
             Ok(true) => {}

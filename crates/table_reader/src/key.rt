@@ -26,8 +26,8 @@ fn val_at(row: &Row, place: usize) -> &Val
     row.get(place)
 }
 
-// Whether a value is the null.
-fn is_null(value: &Val) -> bool
+/// Whether a value is the null.
+pub fn is_null(value: &Val) -> bool
     ensures { result ≡ is_null value.now }
 {
     match value {

@@ -16,8 +16,19 @@ use crate::header::{columns_of, header_fault};
 use crate::key::first_repeated;
 use crate::records::{read_next, reader_of};
 use csv::{ByteRecord, Reader};
-use cube_val::{Row, Table, TableForm};
+use cube_val::{ROW_LIMIT, Row, Table, TableForm};
 use std::alloc::Global;
+
+// The fewest bytes that most fields take, with the comma or the line's end after them.
+const FIELD_SIZE: usize = 4;
+
+// For how many rows memory is reserved at first, in a file of this size with so many fields a record. Pages that no row is
+// written to cost none, and where there are more rows, more is reserved.
+fn room_for(size: usize, width: usize) -> usize
+    ensures { result ≤ row_limit }
+{
+    (size / FIELD_SIZE / width.max(1)).min(ROW_LIMIT as usize)
+}
 
 // Reads the header, in which each column of the form must stand once.
 fn read_header(
@@ -85,7 +96,8 @@ pub fn read_rows(alloc: Global, form: &TableForm, bytes: &[u8]) -> Result<Vec<Ro
         return Err(TableRefusal::Memory);
     };
     let width = found.len();
-    let Ok(body) = read_body(alloc, columns.as_slice(), width, &mut reader, &mut found) else {
+    let room = room_for(bytes.len(), width);
+    let Ok(body) = read_body(alloc, columns.as_slice(), width, room, &mut reader, &mut found) else {
         return Err(TableRefusal::Memory);
     };
     judge(alloc, form, body)

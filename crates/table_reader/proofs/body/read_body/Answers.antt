@@ -5,7 +5,7 @@ use Rattle.table_reader.proofs.RowFacts.{zip_push}
 use Rattle.table_reader.proofs.body.read_body.Goals as goal
 
 pub loop-turn-init : goal.loop-turn-init
-loop-turn-init c = (ap length c.new-rows.ensures.items, λ bytes header has. ([], has, rw c.new-rows.ensures.items tt))
+loop-turn-init c = (ap length c.in_ok-rows.ensures.items, λ bytes header has. ([], has, rw c.in_ok-rows.ensures.items tt))
 
 pub returns-in-Ok-false : goal.returns-in-Ok-false
 returns-in-Ok-false c = λ bytes header has.
