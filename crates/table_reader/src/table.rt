@@ -97,7 +97,14 @@ pub fn read_rows(alloc: Global, form: &TableForm, bytes: &[u8]) -> Result<Vec<Ro
     };
     let width = found.len();
     let room = room_for(bytes.len(), width);
-    let Ok(body) = read_body(alloc, columns.as_slice(), width, room, &mut reader, &mut found) else {
+    let Ok(body) = read_body(
+        alloc,
+        columns.as_slice(),
+        width,
+        room,
+        &mut reader,
+        &mut found,
+    ) else {
         return Err(TableRefusal::Memory);
     };
     judge(alloc, form, body)
