@@ -5,6 +5,7 @@ ghost use Rattle.csv.specs.Records.{fields_of};
 ghost use Rattle.cube_val.specs.Limits.{row_limit};
 ghost use Rattle.table_reader.specs.Bodies.{IsBodyOf};
 ghost use Rattle.table_reader.specs.Columns.{columns_of, header_fault};
+ghost use Rattle.table_reader.specs.Digests.{digests_of};
 ghost use Rattle.table_reader.specs.Keys.{AreWithin};
 ghost use Rattle.table_reader.specs.Reads.{HasRead};
 ghost use Rattle.table_reader.specs.Tables.{IsFaultOf, IsTableOf};
@@ -13,7 +14,7 @@ ghost use Rattle.table_reader.specs.declared.fault.TableFault.{TableFault};
 use crate::body::{Body, read_body};
 use crate::fault::{TableFault, TableKind, TableRefusal};
 use crate::header::{columns_of, header_fault};
-use crate::key::first_repeated;
+use crate::key::repeated_key;
 use crate::records::{read_next, reader_of};
 use csv::{ByteRecord, Reader};
 use cube_val::{ROW_LIMIT, Row, Table, TableForm};
@@ -57,13 +58,18 @@ fn read_header(
 fn judge(alloc: Global, form: &TableForm, body: Body) -> Result<Vec<Row>, TableRefusal>
     requires within { All (AreWithin form.now.key) body.rows.items }
     requires few { length body.rows.items ≤ row_limit }
+    requires digests { body.digests.items ≡ digests_of form.now.key body.rows.items }
     ensures ok { IfOk result (λ rows. (bytes : List ℕ) (header : List (List ℕ)) → header_fault form.now.cols header ≡ None
         → IsBodyOf (columns_of form.now header) (length header) bytes header body.rows.items body.fault → IsTableOf form.now bytes rows.items) }
     ensures fault { (f : TableFault) → result ≡ Err (TableRefusal.Fault f) → (bytes : List ℕ) (header : List (List ℕ)) → header_fault form.now.cols header ≡ None
         → IsBodyOf (columns_of form.now header) (length header) bytes header body.rows.items body.fault → IsFaultOf form.now bytes f }
 {
-    let Body { rows, fault } = body;
-    match first_repeated(alloc, form.key.as_slice(), rows.as_slice()) {
+    let Body {
+        rows,
+        digests,
+        fault,
+    } = body;
+    match repeated_key(alloc, form.key.as_slice(), rows.as_slice(), digests) {
         Ok(None) => {}
         Ok(Some(place)) => {
             return Err(TableRefusal::Fault(TableFault::in_row(
@@ -101,6 +107,7 @@ pub fn read_rows(alloc: Global, form: &TableForm, bytes: &[u8]) -> Result<Vec<Ro
         alloc,
         columns.as_slice(),
         width,
+        form.key.as_slice(),
         room,
         &mut reader,
         &mut found,
