@@ -53,23 +53,24 @@ def megabytes(count):
     return f"{count / 2**20:.1f} MiB"
 
 
-def compare(table_script, ours, yardstick):
-    """Times two commands on one seeded table, in one run, and prints both with their ratios.
+def compare(table_script, ours, *yardsticks):
+    """Times commands on one seeded table, in one run, and prints each with the ratio of ours to it.
 
     `table_script` is the script beside this one that writes the table, given its path and a number of rows: the first word of
-    the command line, else 200,000. `ours` and `yardstick` are each a name and the words of a command, to which the table's
-    path is added. The two must write the same.
+    the command line, else 200,000. `ours` and each of the `yardsticks` are a name and the words of a command, to which the
+    table's path is added. All must write the same.
     """
     rows = int(sys.argv[1]) if len(sys.argv) > 1 else 200000
     with tempfile.TemporaryDirectory() as folder:
         table = os.path.join(folder, "table.csv")
         subprocess.run([sys.executable, os.path.join(HERE, table_script), table, str(rows)], check=True)
         size = os.path.getsize(table)
-        one, other = fastest_of_each([[*words, table] for _, words in (ours, yardstick)], REPEATS)
-    if one.output != other.output:
-        raise SystemExit("the two outputs differ")
+        one, *others = fastest_of_each([[*words, table] for _, words in (ours, *yardsticks)], REPEATS)
+    if any(other.output != one.output for other in others):
+        raise SystemExit("the outputs differ")
     print(f"{'rows':<15} {rows} ({megabytes(size)})")
-    for name, taken in ((ours[0], one), (yardstick[0], other)):
+    for (name, _), taken in zip((ours, *yardsticks), (one, *others)):
         print(f"{name:<15} {taken.seconds:.3f} s, peak {megabytes(taken.peak_bytes)}")
-    print(f"{'time ratio':<15} {one.seconds / other.seconds:.2f}")
+    for (name, _), other in zip(yardsticks, others):
+        print(f"{'time ratio':<15} {one.seconds / other.seconds:.2f} to {name}")
     print(f"{'memory / file':<15} {one.peak_bytes / size:.1f}")

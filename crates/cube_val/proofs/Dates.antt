@@ -31,5 +31,8 @@ date_is_ascii bytes day h =
 pub date_is_text : (bytes : List ℕ) → IsDate bytes → IsText bytes
 date_is_text bytes h = record { short = rw h.1.spelled (lit≤ tt); utf8 = IsUtf8-from_ascii bytes (date_is_ascii bytes h.0 h.1) }
 
+pub date_is_short : (bytes : List ℕ) → IsDate bytes → length bytes ≤ 14
+date_is_short bytes h = rw h.1.spelled (lit≤ tt)
+
 pub date_is_not_null : (bytes : List ℕ) → IsDate bytes → bytes ≢ null_text
 date_is_not_null bytes h e = let long : length null_text ≡ 10 = ap length (sym e ∙ h.1.spelled) in absurd (omega (arith, long))

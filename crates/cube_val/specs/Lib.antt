@@ -4,5 +4,6 @@ pub mod Numbers
 pub mod Order
 pub mod OrderLaws
 pub mod Splits
+pub mod Stored
 pub mod Texts
 pub mod Values

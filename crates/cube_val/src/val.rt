@@ -77,7 +77,7 @@ pub fn read_val(alloc: Global, ty: ColType, bytes: &[u8]) -> Result<Val, ReadVal
         },
         ColType::Text => read_text(alloc, bytes),
         ColType::Date => match Day::read(bytes) {
-            Some(_) => read_text(alloc, bytes),
+            Some(_) => Ok(Val::Text(TextVal::of_date(bytes))),
             None => Err(ReadVal::BadValue),
         },
     }

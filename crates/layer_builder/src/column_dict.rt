@@ -1,23 +1,13 @@
 // The dictionary of a column of rows.
 
-ghost use Rattle.std.specs.Prelude.{true, ◌≡◌, ◌⊎◌, ◌≤◌, ◌<◌, ◌^◌, ◌++◌, ◌∷◌, [], Contains, IfOk, OnOk, length, map};
+ghost use Rattle.std.specs.Prelude.{◌≡◌, ◌⊎◌, ◌≤◌, ◌<◌, ◌^◌, ◌++◌, ◌∷◌, [], Contains, IfOk, OnOk, length, map};
 ghost use Rattle.dim_dictionary.specs.Dictionaries.{dictionary_of};
 ghost use Rattle.plain_answer.specs.Aggregates.{cell};
 
-use crate::recent::{Recent, are_equal};
+use crate::recent::Recent;
 use cube_val::{Row, Val};
 use dim_dictionary::Dict;
 use std::alloc::{AllocError, Global};
-
-// Whether the value stands at the place.
-fn stands_at(values: &[Val], place: u32, v: &Val) -> bool
-    ensures { result ≡ true → Contains values.now v.now }
-{
-    match values.get(place as usize) {
-        Some(w) => are_equal(w, v),
-        None => false,
-    }
-}
 
 // Adds a value, unless it is found among those before it.
 fn add_value(
@@ -28,8 +18,7 @@ fn add_value(
 ) -> Result<(), AllocError>
     ensures { OnOk result ((values.new.items ≡ values.old.items ++ v.now ∷ []) ⊎ ((values.new.items ≡ values.old.items) × Contains values.old.items v.now)) }
 {
-    let place = recent.place(column, v);
-    if stands_at(values, place, v) {
+    if let Some(_place) = recent.find(column, v, values) {
         return Ok(());
     }
     if let Ok(place) = u32::try_from(values.len()) {
@@ -59,7 +48,7 @@ fn values_of(alloc: Global, rows: &[Row], column: usize) -> Result<Vec<Val>, All
     ensures dictionary { IfOk result (λ values. dictionary_of values.items ≡ dictionary_of (map (λ row. cell row column) rows.now)) }
     ensures few { IfOk result (λ values. length values.items ≤ length rows.now) }
 {
-    let mut recent = Recent::new(alloc)?;
+    let mut recent = Recent::new(alloc, rows.len())?;
     let mut values = Vec::new(alloc);
     for row in rows {
         add_cell(&mut values, &mut recent, column, row)?;

@@ -1,11 +1,11 @@
 // Keys of rows, in dictionary numbers.
 
-ghost use Rattle.std.specs.Prelude.{true, ◌≡◌, ◌≤◌, ◌<◌, IfOk, length, map};
+ghost use Rattle.std.specs.Prelude.{◌≡◌, ◌≤◌, ◌<◌, IfOk, length, map};
 ghost use Rattle.cube_val.specs.Order.{number_of};
 ghost use Rattle.plain_answer.specs.Aggregates.{cell};
 ghost use Rattle.layer_builder.specs.Base.{dict_at, key_in, number_in, value_at};
 
-use crate::recent::{Recent, are_equal};
+use crate::recent::Recent;
 use crate::runs::{INLINE, KeyedRow};
 use cube_val::{Row, Val};
 use dim_dictionary::{Dict, DictSet};
@@ -44,23 +44,12 @@ pub(crate) fn number_at(vals: &[Val], column: Option<usize>) -> i64
     }
 }
 
-// Whether the value has the number in the dictionary.
-fn has_number(dict: &Dict, id: u32, v: &Val) -> bool
-    ensures { result ≡ true → number_in dict.now v.now ≡ id }
-{
-    match dict.values().get(id as usize) {
-        Some(w) => are_equal(w, v),
-        None => false,
-    }
-}
-
 // The number of a column's value in the column's dictionary.
 fn number_of_value(dict: &Dict, recent: &mut Recent, column: usize, v: &Val) -> u32
     ensures { result ≡ number_in dict.now v.now }
 {
-    let last = recent.place(column, v);
-    if has_number(dict, last, v) {
-        return last;
+    if let Some(id) = recent.find(column, v, dict.values()) {
+        return id;
     }
     let id = dict.lower_bound(v);
     recent.keep(column, v, id);
@@ -107,7 +96,7 @@ pub(crate) fn keyed_rows<'a>(
     requires { width ≤ length dicts.now }
     ensures { IfOk result (λ keyed. keyed.items ≡ map (λ row. (key_in dicts.now width row, row)) rows.now) }
 {
-    let mut recent = Recent::new(alloc)?;
+    let mut recent = Recent::new(alloc, rows.len())?;
     let mut keyed = Vec::with_capacity(alloc, rows.len())?;
     for row in rows {
         let key = key_of(alloc, dicts, width, &mut recent, row)?;

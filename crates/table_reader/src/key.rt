@@ -9,9 +9,10 @@ ghost use Rattle.std.specs.BTreeSet.{contains};
 ghost use Rattle.cube_val.specs.Order.{row_cmp};
 ghost use Rattle.cube_val.specs.OrderLaws.{row_cmp_total};
 ghost use Rattle.cube_val.specs.declared.val.Val.{Val};
+ghost use Rattle.table_reader.specs.Digests.{digests_of};
 ghost use Rattle.table_reader.specs.Keys.{AreWithin, HasDistinctKeys, Repeats, has_null, is_null, key_of, val_at};
 
-use crate::digest::digests_differ;
+use crate::digest::{digests_differ, digests_of};
 use cube_val::{Row, Val, cmp};
 use std::alloc::{AllocError, Global};
 use std::cmp::Ordering;
@@ -26,8 +27,8 @@ fn val_at(row: &Row, place: usize) -> &Val
     row.get(place)
 }
 
-// Whether a value is the null.
-fn is_null(value: &Val) -> bool
+/// Whether a value is the null.
+pub fn is_null(value: &Val) -> bool
     ensures { result ≡ is_null value.now }
 {
     match value {
@@ -152,13 +153,15 @@ fn add_key<'a>(keys: &mut BTreeSet<Key<'a>>, key: Key<'a>) -> Result<bool, Alloc
     Ok(!is_new)
 }
 
-/// The place of the first row that repeats the key of an earlier one.
-pub fn first_repeated(
+/// The place of the first row that repeats the key of an earlier one. The digests are those of the rows' keys.
+pub(crate) fn repeated_key(
     alloc: Global,
     places: &[usize],
     rows: &[Row],
+    digests: Vec<u64>,
 ) -> Result<Option<usize>, AllocError>
-    requires { All (AreWithin places.now) rows.now }
+    requires within { All (AreWithin places.now) rows.now }
+    requires digests { digests.items ≡ digests_of places.now rows.now }
     ensures none { IfOk result (λ o. IfNone o (HasDistinctKeys places.now rows.now)) }
     ensures some { IfOk result (λ o. IfSome o (λ i. (i < length rows.now) × HasDistinctKeys places.now (take i rows.now)
         × Repeats places.now (take i rows.now) (slice_index_or rows.now i []))) }
@@ -166,7 +169,7 @@ pub fn first_repeated(
     if places.is_empty() {
         return Ok(None);
     }
-    let differ = digests_differ(alloc, places, rows)?;
+    let differ = digests_differ(digests);
     if differ {
         return Ok(None);
     }
@@ -178,4 +181,19 @@ pub fn first_repeated(
         }
     }
     Ok(None)
+}
+
+/// The place of the first row that repeats the key of an earlier one.
+pub fn first_repeated(
+    alloc: Global,
+    places: &[usize],
+    rows: &[Row],
+) -> Result<Option<usize>, AllocError>
+    requires { All (AreWithin places.now) rows.now }
+    ensures none { IfOk result (λ o. IfNone o (HasDistinctKeys places.now rows.now)) }
+    ensures some { IfOk result (λ o. IfSome o (λ i. (i < length rows.now) × HasDistinctKeys places.now (take i rows.now)
+        × Repeats places.now (take i rows.now) (slice_index_or rows.now i []))) }
+{
+    let digests = digests_of(alloc, places, rows)?;
+    repeated_key(alloc, places, rows, digests)
 }

@@ -7,6 +7,7 @@ ghost use Rattle.table_reader.specs.Rows.{IsFaultOfCell, IsFirstCellFault, IsRec
 
 use crate::fault::{TableFault, TableKind, TableRefusal};
 use crate::header::Column;
+use crate::key::is_null;
 use crate::records::field_at;
 use csv::ByteRecord;
 use cube_val::{ReadVal, Row, Val, read_val};
@@ -31,19 +32,15 @@ fn read_cell(
             kind,
         })
     };
-    match read_val(alloc, column.ty, field_at(found, column.place)) {
-        Ok(Val::Null) => {
-            if column.no_null {
-                Err(fault_of(TableKind::NullMeasure))
-            } else {
-                Ok(Val::Null)
-            }
-        }
-        Ok(Val::Int(number)) => Ok(Val::Int(number)),
-        Ok(Val::Text(text)) => Ok(Val::Text(text)),
-        Err(ReadVal::BadValue) => Err(fault_of(TableKind::BadValue)),
-        Err(ReadVal::Memory) => Err(TableRefusal::Memory),
+    let value = match read_val(alloc, column.ty, field_at(found, column.place)) {
+        Ok(value) => value,
+        Err(ReadVal::BadValue) => return Err(fault_of(TableKind::BadValue)),
+        Err(ReadVal::Memory) => return Err(TableRefusal::Memory),
+    };
+    if column.no_null && is_null(&value) {
+        return Err(fault_of(TableKind::NullMeasure));
     }
+    Ok(value)
 }
 
 // Adds a value at the end.

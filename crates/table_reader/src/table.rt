@@ -5,6 +5,7 @@ ghost use Rattle.csv.specs.Records.{fields_of};
 ghost use Rattle.cube_val.specs.Limits.{row_limit};
 ghost use Rattle.table_reader.specs.Bodies.{IsBodyOf};
 ghost use Rattle.table_reader.specs.Columns.{columns_of, header_fault};
+ghost use Rattle.table_reader.specs.Digests.{digests_of};
 ghost use Rattle.table_reader.specs.Keys.{AreWithin};
 ghost use Rattle.table_reader.specs.Reads.{HasRead};
 ghost use Rattle.table_reader.specs.Tables.{IsFaultOf, IsTableOf};
@@ -13,11 +14,22 @@ ghost use Rattle.table_reader.specs.declared.fault.TableFault.{TableFault};
 use crate::body::{Body, read_body};
 use crate::fault::{TableFault, TableKind, TableRefusal};
 use crate::header::{columns_of, header_fault};
-use crate::key::first_repeated;
+use crate::key::repeated_key;
 use crate::records::{read_next, reader_of};
 use csv::{ByteRecord, Reader};
-use cube_val::{Row, Table, TableForm};
+use cube_val::{ROW_LIMIT, Row, Table, TableForm};
 use std::alloc::Global;
+
+// The fewest bytes that most fields take, with the comma or the line's end after them.
+const FIELD_SIZE: usize = 4;
+
+// For how many rows memory is reserved at first, in a file of this size with so many fields a record. Pages that no row is
+// written to cost none, and where there are more rows, more is reserved.
+fn room_for(size: usize, width: usize) -> usize
+    ensures { result ≤ row_limit }
+{
+    (size / FIELD_SIZE / width.max(1)).min(ROW_LIMIT as usize)
+}
 
 // Reads the header, in which each column of the form must stand once.
 fn read_header(
@@ -46,13 +58,18 @@ fn read_header(
 fn judge(alloc: Global, form: &TableForm, body: Body) -> Result<Vec<Row>, TableRefusal>
     requires within { All (AreWithin form.now.key) body.rows.items }
     requires few { length body.rows.items ≤ row_limit }
+    requires digests { body.digests.items ≡ digests_of form.now.key body.rows.items }
     ensures ok { IfOk result (λ rows. (bytes : List ℕ) (header : List (List ℕ)) → header_fault form.now.cols header ≡ None
         → IsBodyOf (columns_of form.now header) (length header) bytes header body.rows.items body.fault → IsTableOf form.now bytes rows.items) }
     ensures fault { (f : TableFault) → result ≡ Err (TableRefusal.Fault f) → (bytes : List ℕ) (header : List (List ℕ)) → header_fault form.now.cols header ≡ None
         → IsBodyOf (columns_of form.now header) (length header) bytes header body.rows.items body.fault → IsFaultOf form.now bytes f }
 {
-    let Body { rows, fault } = body;
-    match first_repeated(alloc, form.key.as_slice(), rows.as_slice()) {
+    let Body {
+        rows,
+        digests,
+        fault,
+    } = body;
+    match repeated_key(alloc, form.key.as_slice(), rows.as_slice(), digests) {
         Ok(None) => {}
         Ok(Some(place)) => {
             return Err(TableRefusal::Fault(TableFault::in_row(
@@ -85,7 +102,16 @@ pub fn read_rows(alloc: Global, form: &TableForm, bytes: &[u8]) -> Result<Vec<Ro
         return Err(TableRefusal::Memory);
     };
     let width = found.len();
-    let Ok(body) = read_body(alloc, columns.as_slice(), width, &mut reader, &mut found) else {
+    let room = room_for(bytes.len(), width);
+    let Ok(body) = read_body(
+        alloc,
+        columns.as_slice(),
+        width,
+        form.key.as_slice(),
+        room,
+        &mut reader,
+        &mut found,
+    ) else {
         return Err(TableRefusal::Memory);
     };
     judge(alloc, form, body)

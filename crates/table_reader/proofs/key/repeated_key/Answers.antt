@@ -7,14 +7,14 @@ use Rattle.std.proofs.lemmas.List.Folds.{list_any_more}
 use Rattle.cube_val.specs.Order.{row_cmp}
 use Rattle.table_reader.specs.Keys.{Repeats, has_null, key_of}
 use Rattle.table_reader.proofs.KeyFacts.{distinct_front, is_keyed_by, no_repeat_from_test, repeats_from_test}
-use Rattle.table_reader.proofs.key.first_repeated.Goals as goal
+use Rattle.table_reader.proofs.key.repeated_key.Goals as goal
 use borrow.Author.Count.{below_more}
 
 pub loop-i-init : goal.loop-i-init
 loop-i-init c = (λ q. rw c.new-keys.ensures.empty refl, λ k small r. absurd (omega arith))
 
 pub of-requires : goal.of-requires
-of-requires c = λ k d h. rw c.index-rows-i.is (c.requires c.loop-i.i c.index-rows-i.result c.loop-i-test.true k d h)
+of-requires c = λ k d h. rw c.index-rows-i.is (c.requires.within c.loop-i.i c.index-rows-i.result c.loop-i-test.true k d h)
 
 pub returns-then-repeats-clause-some : goal.returns-then-repeats-clause-some
 returns-then-repeats-clause-some c =
