@@ -40,8 +40,10 @@ fn put_rows<L: Ledger>(
     requires { (blank.name ≡ L.name) × (blank.parts ≡ L.parts) × (0 < L.parts) }
 {
     let mut steps = Steps::<L>::new(blank);
+    let mut buffer = vec![in *numbers.allocator(); 0; table.mask().count() as usize]?;
+    let key = buffer.as_mut_slice();
     for i in 0..table.len() {
-        let (key, cells) = table.row(i, &mut steps);
+        let cells = table.row(i, key, &mut steps);
         put_row(numbers, key, cells)?;
     }
     Ok(())

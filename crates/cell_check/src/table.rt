@@ -60,6 +60,8 @@ pub(crate) fn answer_row<L: Ledger, W: Write>(
     }
     let table = two_rows(alloc)?;
     let mut steps = Steps::<L>::new(blank);
-    let (key, cells) = table.row(number as usize, &mut steps);
+    let mut buffer = vec![in alloc; 0; table.mask().count() as usize]?;
+    let key = buffer.as_mut_slice();
+    let cells = table.row(number as usize, key, &mut steps);
     put_row(key, cells, out)
 }

@@ -7,6 +7,8 @@ use Rattle.measure_laws.specs.Ids.{ids_of, merged_ids}
 use Rattle.measure_laws.specs.Measures.{merged_sum, summed}
 use Rattle.cell_store.specs.declared.cell.Cell.{Cell}
 use Rattle.cell_store.specs.declared.cell.Cell.TheVariants.{Count, Sum, Min, Max, Distinct}
+use Rattle.cell_gather.specs.declared.union.Merging.{Merging}
+use Rattle.cell_gather.specs.declared.union.Merging.TheVariants.{Merged, Union}
 
 -- the cell of no row
 abbrev pub no_cell : MeasureForm → Cell
@@ -34,3 +36,8 @@ abbrev pub merged_cells : List Cell → List Cell → List Cell
 merged_cells [] others = []
 merged_cells (c ∷ cells) [] = []
 merged_cells (c ∷ cells) (o ∷ others) = merged_cell c o ∷ merged_cells cells others
+
+-- the cell that cells were merged into so far
+abbrev pub merged_so_far : Merging → Cell
+merged_so_far (Merged cell) = cell
+merged_so_far (Union ids) = Distinct ids

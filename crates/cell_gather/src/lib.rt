@@ -8,7 +8,8 @@
 //! `gathered_cells`: gathering aggregates by a part of their keys gives the aggregate of all their rows by that part. So
 //! a table that is an aggregate stays one.
 //!
-//! The modules: `rows`: rows to gather; `merge`: cells merged one by one; `runs`: rows of one key; `table`: the table;
+//! The modules: `rows`: rows to gather; `merge`: cells merged one by one; `union`: cells of
+//! many rows merged; `runs`: rows of one key; `table`: the table;
 //! `keys`: parts of keys; `laws`: the law; `examples`: the definitions on a few cells.
 #![tactic(auto)]
 
@@ -19,6 +20,7 @@ mod merge;
 mod rows;
 mod runs;
 mod table;
+mod union;
 
 pub use examples::worked_examples;
 pub use keys::{kept_dims, kept_numbers};

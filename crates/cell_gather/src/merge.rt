@@ -11,8 +11,8 @@ use cell_store::Cell;
 use measure_laws::{Count, IdSet, Max, Measure, MeasureForm, Min, Sum};
 use std::alloc::{AllocError, Global};
 
-// The cell of no row.
-fn no_cell(alloc: Global, form: MeasureForm) -> Cell
+/// The cell of no row.
+pub(crate) fn no_cell(alloc: Global, form: MeasureForm) -> Cell
     ensures { result ≡ no_cell form }
 {
     match form {
@@ -35,8 +35,8 @@ fn no_cells(alloc: Global, forms: &[MeasureForm]) -> Result<Vec<Cell>, AllocErro
     Ok(cells)
 }
 
-// Merges another cell into a cell of its form.
-fn merge_cell(cell: &mut Cell, other: &Cell) -> Result<(), AllocError>
+/// Merges another cell into a cell of its form.
+pub(crate) fn merge_cell(cell: &mut Cell, other: &Cell) -> Result<(), AllocError>
     requires { items_of cell.old + items_of other.now ≤ most_items }
     ensures { OnOk result (cell.new ≡ merged_cell cell.old other.now) }
 {
@@ -76,8 +76,8 @@ fn merge_cells(cells: &mut [Cell], others: &[Cell]) -> Result<(), AllocError>
     Ok(())
 }
 
-/// The merge of the cells of rows.
-pub(crate) fn merged_rows(
+/// The merge of the cells of rows, one row after another. For many rows with sets of ids `merged_rows` is faster.
+pub(crate) fn merged_in_turn(
     alloc: Global,
     forms: &[MeasureForm],
     rows: &[KeyedCells],

@@ -7,9 +7,9 @@ ghost use Rattle.agg_group.specs.Mask.{count_of};
 ghost use Rattle.cell_store.specs.Cells.{ItemsAreFew, form_of, key_cmp};
 ghost use Rattle.cell_gather.specs.Gathers.{gathered};
 
-use crate::merge::merged_rows;
 use crate::rows::KeyedCells;
 use crate::runs::run_len;
+use crate::union::merged_rows;
 use agg_group::Mask;
 use cell_store::CellTable;
 use measure_laws::MeasureForm;

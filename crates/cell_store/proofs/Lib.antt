@@ -1,1 +1,4 @@
+pub mod ColumnLemmas
+pub mod LaneLemmas
+pub mod SelectLemmas
 pub mod TableLemmas

@@ -1,1 +1,4 @@
 pub mod Cells
+pub mod Columns
+pub mod Lanes
+pub mod Selects

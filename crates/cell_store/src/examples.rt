@@ -1,18 +1,25 @@
-// Cells and keys, computed from their definitions.
+// Cells, keys and tests of them, computed from their definitions.
 
-ghost use Rattle.std.specs.Prelude.{◌≡◌, [], ◌∷◌, pos};
+ghost use Rattle.std.specs.Prelude.{◌≡◌, [], ◌∷◌, false, pos, true};
 ghost use Rattle.measure_laws.specs.Ids.{ids_of};
 ghost use Rattle.measure_laws.specs.Measures.{summed};
 ghost use Rattle.cell_store.specs.Cells.{form_of, items_at, key_cmp};
+ghost use Rattle.cell_store.specs.Columns.{rows_of};
+ghost use Rattle.cell_store.specs.Selects.{in_spans, places_of};
 
 use crate::cell::Cell;
 use measure_laws::MeasureForm;
 use std::cmp::Ordering;
 
-/// The forms and items of a few cells, and the order of two keys.
+/// The forms and items of a few cells, the order of two keys, two rows that stand in two columns, and a few spans.
 pub fn worked_examples()
     ensures form { form_of (Cell.Distinct (ids_of (4 ∷ 4 ∷ []))) ≡ MeasureForm.Distinct }
     ensures items { items_at 1 (Cell.Count 2 ∷ Cell.Sum (summed (pos 3 ∷ pos 4 ∷ pos 5 ∷ [])) ∷ []) ≡ 3 }
     ensures no_cell { items_at 7 (Cell.Count 2 ∷ []) ≡ 0 }
     ensures order { key_cmp (1 ∷ 9 ∷ []) (2 ∷ 0 ∷ []) ≡ Ordering.Less }
+    ensures rows { rows_of 2 ((1 ∷ 2 ∷ []) ∷ (4 ∷ 0 ∷ []) ∷ []) 1 (Cell.Count 7 ∷ Cell.Count 1 ∷ []) ≡ (1 ∷ 4 ∷ [], Cell.Count 7 ∷ []) ∷ (2 ∷ 0 ∷ [], Cell.Count 1 ∷ []) ∷ [] }
+    ensures first { in_spans (record { from = 3; to = 5 } ∷ record { from = 8; to = 9 } ∷ []) 3 ≡ true }
+    ensures end { in_spans (record { from = 3; to = 5 } ∷ record { from = 8; to = 9 } ∷ []) 5 ≡ false }
+    ensures no_span { in_spans [] 3 ≡ false }
+    ensures no_test { places_of [] ((1 ∷ [], []) ∷ (4 ∷ [], []) ∷ []) ≡ 0 ∷ 1 ∷ [] }
 {}

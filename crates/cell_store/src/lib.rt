@@ -6,18 +6,27 @@
 //!
 //! At its boundary: a table's keys rise strictly, each row has as many numbers as the mask has dimensions and a cell for
 //! each form, and for each form the items of all rows are together at most 2^40, so that rows may be merged in any way. A
-//! row is shown by `CellTable::row` alone, and each call of it is one step of a `Steps`; so a bound on the steps that a
-//! call took is a bound on the rows that it read.
+//! row is shown by `CellTable::row`, each call of which is one step of a `Steps`, or by the `Picked` of a
+//! `CellTable::select`, which is a step for each row of the table; so a bound on the steps that a call took is a bound on
+//! the rows that it went through.
 //!
-//! The modules: `cell`: a cell; `table`: a table of rows; `steps`: the counter of rows that were read; `examples`: the definitions on a few cells.
+//! Contracts see a table as the list of its rows. In the code it is a column of numbers for each dimension and the cells
+//! of all rows one after another, since a query reads a few columns and not rows.
+//!
+//! The modules: `cell`: a cell; `table`: a table of rows; `columns`: how a table keeps its rows; `select`: rows picked by
+//! tests of their keys; `lanes`: these tests at eight places at once; `steps`: the counter of rows that were read; `examples`: the definitions on a few cells.
 #![tactic(auto)]
 
 mod cell;
+mod columns;
 mod examples;
+mod lanes;
+mod select;
 mod steps;
 mod table;
 
 pub use cell::Cell;
 pub use examples::worked_examples;
+pub use select::{IdSpan, IdTest, Picked};
 pub use steps::Steps;
 pub use table::{CellRow, CellTable};

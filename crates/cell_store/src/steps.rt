@@ -34,6 +34,13 @@ impl<L: Ledger> Steps<L> {
     pub fn tick(&mut self)
         ensures { self.new ≡ self.old + 1 }
     {
-        self.book.add(&mut self.share, 1);
+        self.add(1);
+    }
+
+    /// Counts so many rows.
+    pub(crate) fn add(&mut self, rows: u64)
+        ensures { self.new ≡ self.old + rows }
+    {
+        self.book.add(&mut self.share, rows);
     }
 }

@@ -1,10 +1,12 @@
 // A table of cells by their keys.
 
-ghost use Rattle.std.specs.Prelude.{◌≡◌, ◌<◌, ◌+◌, ◌++◌, ◌∷◌, ◌↔◌, [], IfOk, IsTrue, OnErr, OnOk, Some, length, map, slice_get};
+ghost use Rattle.std.specs.Prelude.{◌≡◌, ◌<◌, ◌+◌, ◌++◌, ◌∷◌, ◌↔◌, [], All, IfOk, IsTrue, OnErr, OnOk, Some, length, map, slice_get, slice_index};
 ghost use Rattle.std.specs.List.Sorted.{IsStrictlySortedBy};
 ghost use Rattle.agg_group.specs.Mask.{count_of};
 
 use crate::cell::Cell;
+use crate::columns::{cells_at, id_at, no_columns, put_key, read_key, reserve_each};
+use crate::select::{IdTest, places_in};
 use crate::steps::Steps;
 use agg_group::Mask;
 use measure_laws::MeasureForm;
@@ -12,7 +14,7 @@ use std::alloc::{AllocError, Global};
 use std::marker::Model;
 use std::sync::ledger::Ledger;
 
-/// A row on its way into a table: a key and its cells.
+/// A row on its way into a table: a key and its cells. A table keeps its rows by columns.
 #[derive(Drop)]
 pub struct CellRow {
     key: Vec<u32>,
@@ -62,12 +64,15 @@ pub struct CellTable {
     alloc: Global,
     mask: Mask,
     forms: Vec<MeasureForm>,
-    rows: Vec<CellRow>,
+    count: usize,
+    columns: Vec<Vec<u32>>,
+    cells: Vec<Cell>,
 }
 
 impl Model for CellTable {
-    ghost use Rattle.cell_store.specs.Cells.{CellRows, IsCellTable};
-    ghost use Rattle.std.specs.Prelude.{List, ℕ, refl};
+    ghost use Rattle.cell_store.specs.Cells.{CellRows};
+    ghost use Rattle.cell_store.specs.Columns.{AreColumns, lists_of, rows_of};
+    ghost use Rattle.std.specs.Prelude.{List, ℕ, length, refl};
     ghost use Rattle.std.specs.Coded.{code_by, coded×, coded_list, coded_ℕ};
     ghost use Rattle.agg_group.specs.declared.mask.Mask.{Mask};
     ghost use Rattle.agg_group.specs.contracts.mask.Mask as mask_contract;
@@ -80,13 +85,14 @@ impl Model for CellTable {
 
     ghost coded = { code_by (Mask × (List MeasureForm × List (List ℕ × List Cell))) (coded× mask_contract.the_row.coded (coded× (coded_list form_contract.the_row.coded) (coded_list (coded× (coded_list coded_ℕ) (coded_list cell_contract.the_row.coded))))) (λ t. (t.mask, (t.forms, t.rows))) (λ p. record { mask = p.0; forms = p.1.0; rows = p.1.1 }) (λ _. refl) };
 
-    ghost view = { λ t. record { mask = t.mask; forms = t.forms.items; rows = t.rows.items } };
+    ghost view = { λ t. record { mask = t.mask; forms = t.forms.items; rows = rows_of t.count (lists_of t.columns.items) (length t.forms.items) t.cells.items } };
 
-    ghost invariant = { λ t. IsCellTable t.mask t.forms.items t.rows.items };
+    ghost invariant = { λ t. AreColumns t.mask t.forms.items t.count (lists_of t.columns.items) t.cells.items };
 }
 
 impl CellTable {
     ghost use Rattle.cell_store.specs.Cells.{IsCellTable, ItemsAreFew, form_of, key_cmp};
+    ghost use Rattle.cell_store.specs.Selects.{places_of, row_at};
 
     /// A table of no row, for these dimensions and cells of these forms.
     pub fn new(alloc: Global, mask: Mask, forms: &[MeasureForm]) -> Result<CellTable, AllocError>
@@ -95,12 +101,14 @@ impl CellTable {
         ensures rows { IfOk result (λ t. t.rows ≡ []) }
     {
         let forms = Vec::from_slice(alloc, forms)?;
-        let rows = Vec::new(alloc);
+        let columns = no_columns(alloc, mask.count())?;
         Ok(CellTable {
             alloc,
             mask,
             forms,
-            rows,
+            count: 0,
+            columns,
+            cells: Vec::new(alloc),
         })
     }
 
@@ -116,13 +124,12 @@ impl CellTable {
         ensures forms { IfOk result (λ t. t.forms ≡ forms.now) }
         ensures rows { IfOk result (λ t. t.rows ≡ rows.items) }
     {
-        let kept = Vec::from_slice(alloc, forms)?;
-        Ok(CellTable {
-            alloc,
-            mask,
-            forms: kept,
-            rows,
-        })
+        let mut table = CellTable::new(alloc, mask, forms)?;
+        for row in rows {
+            let CellRow { key, cells } = row;
+            table.push(key.as_slice(), cells)?;
+        }
+        Ok(table)
     }
 
     /// Adds a row at the end. After want of memory the table is as before, and the cells are dropped.
@@ -136,8 +143,11 @@ impl CellTable {
         ensures ok { OnOk result (self.new.rows ≡ self.old.rows ++ (key.now, cells.items) ∷ []) }
         ensures err { OnErr result (self.new.rows ≡ self.old.rows) }
     {
-        let key = Vec::from_slice(self.alloc, key)?;
-        self.rows.push(CellRow { key, cells })?;
+        reserve_each(self.columns.as_mut_slice())?;
+        let mut cells = cells;
+        self.cells.append(&mut cells)?;
+        put_key(self.columns.as_mut_slice(), key);
+        self.count += 1;
         Ok(())
     }
 
@@ -146,14 +156,14 @@ impl CellTable {
         ensures len { result ≡ length self.now.rows }
         ensures table { IsCellTable self.now.mask self.now.forms self.now.rows }
     {
-        self.rows.len()
+        self.count
     }
 
     /// Whether there is no row.
     pub fn is_empty(&self) -> bool
         ensures { IsTrue result ↔ (self.now.rows ≡ []) }
     {
-        self.rows.is_empty()
+        self.count == 0
     }
 
     /// The dimensions.
@@ -170,14 +180,40 @@ impl CellTable {
         &self.forms
     }
 
-    /// The key and the cells of a row, which is one step.
-    pub fn row<'a, L: Ledger>(&'a self, i: usize, steps: &mut Steps<L>) -> (&'a [u32], &'a [Cell])
-        requires { i < length self.now.rows }
-        ensures row { slice_get self.now.rows i ≡ Some (result.0.now, result.1.now) }
+    /// Writes the key of a row and gives its cells, which is one step.
+    pub fn row<L: Ledger>(&self, i: usize, key: &mut [u32], steps: &mut Steps<L>) -> &[Cell]
+        requires in_range { i < length self.now.rows }
+        requires width { length key.old ≡ count_of self.now.mask }
+        ensures row { slice_get self.now.rows i ≡ Some (key.new, result.now) }
         ensures step { steps.new ≡ steps.old + 1 }
     {
         steps.tick();
-        let row = &self.rows[i];
-        (&row.key, &row.cells)
+        read_key(self.columns.as_slice(), i, key);
+        self.cells(i)
+    }
+
+    /// A number of the key of a row; who shows it has counted its step.
+    pub(crate) fn id(&self, place: usize, column: usize) -> u32
+        requires place { place < length self.now.rows }
+        requires column { column < length (row_at self.now.rows place).0 }
+        ensures { result ≡ slice_index (row_at self.now.rows place).0 column }
+    {
+        id_at(&self.columns[column], place)
+    }
+
+    /// The cells of a row; who shows them has counted its step.
+    pub(crate) fn cells(&self, place: usize) -> &[Cell]
+        requires { place < length self.now.rows }
+        ensures { result.now ≡ (row_at self.now.rows place).1 }
+    {
+        cells_at(self.cells.as_slice(), self.forms.len(), place)
+    }
+
+    /// The places of the rows whose keys pass the tests; who asks for them has counted their steps.
+    pub(crate) fn places_of(&self, tests: &[IdTest]) -> Result<Vec<usize>, AllocError>
+        requires { All (λ test. test.column < count_of self.now.mask) tests.now }
+        ensures { IfOk result (λ places. places.items ≡ places_of tests.now self.now.rows) }
+    {
+        places_in(self.alloc, self.columns.as_slice(), self.count, tests)
     }
 }

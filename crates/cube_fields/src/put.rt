@@ -1,6 +1,8 @@
 // What is written.
 
 ghost use Rattle.std.specs.Prelude.{◌≡◌, ◌<◌, ◌^◌, ◌++◌, length, All, OnOk};
+ghost use Rattle.agg_group.specs.Mask.{count_of};
+ghost use Rattle.cell_store.specs.Selects.{row_at};
 ghost use Rattle.cube_fields.specs.Cells.{IsShortCell, IsShortTable, cell_text, id_text, row_text, table_text, tables_text, value_text};
 ghost use Rattle.cube_fields.specs.Dicts.{dict_text, dicts_text};
 ghost use Rattle.std.specs.List.{flat_map};
@@ -106,6 +108,23 @@ fn put_row(out: &mut Vec<u8>, key: &[u32], cells: &[Cell]) -> Result<(), AllocEr
     put_cells(out, cells)
 }
 
+// Puts a row of a table, whose key is written into `key`. It is one step.
+fn put_row_at<L: Ledger>(
+    out: &mut Vec<u8>,
+    table: &CellTable,
+    i: usize,
+    key: &mut [u32],
+    steps: &mut Steps<L>,
+) -> Result<(), AllocError>
+    requires in_range { i < length table.now.rows }
+    requires width { length key.old ≡ count_of table.now.mask }
+    requires short { All (λ row. All IsShortCell row.1) table.now.rows }
+    ensures { OnOk result (out.new.items ≡ out.old.items ++ row_text (row_at table.now.rows i)) }
+{
+    let cells = table.row(i, key, steps);
+    put_row(out, key, cells)
+}
+
 // Puts the rows of a table, each of which is one step.
 fn put_rows<L: Ledger>(
     out: &mut Vec<u8>,
@@ -115,9 +134,10 @@ fn put_rows<L: Ledger>(
     requires { All (λ row. All IsShortCell row.1) table.now.rows }
     ensures { OnOk result (out.new.items ≡ out.old.items ++ flat_map row_text table.now.rows) }
 {
+    let mut buffer = vec![in *out.allocator(); 0; table.mask().count() as usize]?;
+    let key = buffer.as_mut_slice();
     for i in 0..table.len() {
-        let (key, cells) = table.row(i, steps);
-        put_row(out, key, cells)?;
+        put_row_at(out, table, i, key, steps)?;
     }
     Ok(())
 }

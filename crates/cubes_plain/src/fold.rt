@@ -2,7 +2,9 @@
 
 ghost use Rattle.std.specs.Prelude.{◌≡◌, ◌<◌, ◌^◌, ◌∷◌, [], ◌++◌, IfOk, length, map, All, slice_index_or};
 ghost use Rattle.std.specs.List.{flat_map};
+ghost use Rattle.agg_group.specs.Mask.{count_of};
 ghost use Rattle.cell_store.specs.Cells.{form_of};
+ghost use Rattle.cell_store.specs.Selects.{row_at};
 ghost use Rattle.cell_store.specs.declared.cell.Cell.TheVariants as cell;
 ghost use Rattle.cube_val.specs.Values.{FitsType};
 ghost use Rattle.cube_val.specs.declared.val.ColType.TheVariants as ty;
@@ -89,6 +91,25 @@ fn row_line(alloc: Global, dict: &Dict, key: &[u32], cells: &[Cell]) -> Result<V
     group_line(alloc, value, sum)
 }
 
+// The line of the row at a place of the cuboid of D1, whose key is written into `key`.
+fn line_at<L: Ledger>(
+    alloc: Global,
+    dict: &Dict,
+    cuboid: &CellTable,
+    i: usize,
+    key: &mut [u32],
+    steps: &mut Steps<L>,
+) -> Result<Vec<u8>, AllocError>
+    requires in_range { i < length cuboid.now.rows }
+    requires width { length key.old ≡ count_of cuboid.now.mask }
+    requires rows { All (IsSumRow dict.now) cuboid.now.rows }
+    requires texts { All (FitsType ty.Text) dict.now }
+    ensures { IfOk result (λ line. line.items ≡ row_line dict.now (row_at cuboid.now.rows i)) }
+{
+    let cells = cuboid.row(i, key, steps);
+    row_line(alloc, dict, key, cells)
+}
+
 // The header, and the lines of the cuboid of D1. Nobody counts the steps.
 fn text_of_cuboid<L: Ledger>(
     alloc: Global,
@@ -110,9 +131,10 @@ fn text_of_cuboid<L: Ledger>(
             b"SUM(M)".as_slice(),
         ],
     )?;
+    let mut buffer = vec![in alloc; 0; cuboid.mask().count() as usize]?;
+    let key = buffer.as_mut_slice();
     for i in 0..cuboid.len() {
-        let (key, cells) = cuboid.row(i, &mut steps);
-        let line = row_line(alloc, dict, key, cells)?;
+        let line = line_at(alloc, dict, cuboid, i, key, &mut steps)?;
         text.extend_from_slice(line.as_slice())?;
     }
     Ok(text)

@@ -4,6 +4,7 @@ pub mod InPiecesFacts
 pub mod LayerFacts
 pub mod MadeFacts
 pub mod MaskFacts
+pub mod MeaningFacts
 pub mod PieceFacts
 pub mod RunFacts
 pub mod ValueFacts

@@ -1,4 +1,5 @@
 pub mod Base
 pub mod Cuboids
 pub mod Layers
+pub mod Meanings
 pub mod Runs

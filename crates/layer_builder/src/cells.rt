@@ -11,7 +11,7 @@ use crate::keys::{id_at, number_at};
 use crate::runs::KeyedRow;
 use cell_store::Cell;
 use dim_dictionary::DictSet;
-use measure_laws::{Count, Measure, MeasureForm};
+use measure_laws::{Count, IdSet, Measure, MeasureForm};
 use plain_answer::{Agg, AggKind};
 use std::alloc::{AllocError, Global};
 
@@ -135,7 +135,7 @@ fn run_cell(
         }
         AggKind::Distinct => {
             let ids = ids_of(alloc, dicts, place, rows, agg.column)?;
-            Ok(Cell::Distinct(of_items(alloc, &ids)?))
+            Ok(Cell::Distinct(IdSet::from_items(ids)?))
         }
     }
 }

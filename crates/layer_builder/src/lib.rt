@@ -6,7 +6,8 @@
 //! At its boundary: `base` is the aggregate of the rows by all rowkey columns, in dictionary numbers, and the same for
 //! every number of pieces. `regroup` gathers a table's rows by some of its dimensions, in as many steps as there are
 //! rows, and `layer` makes many cuboids so. `cuboid` makes a smaller cuboid from rows at once. By `cuboids_of_rows` a table
-//! that is regrouped from the base, at once or by way of others, is the aggregate of the same rows.
+//! that is regrouped from the base, at once or by way of others, is the aggregate of the same rows; by `values_of_cuboids` what such
+//! a table means over its dictionaries is their aggregate in values.
 //!
 //! The modules: `recent`: where values were found lately; `column_dict`: the dictionary of a column; `keys`: keys of rows;
 //! `runs`: rows in the order of their keys; `cells`: the cells of rows of one key; `base_cuboid`: the base cuboid; `layers`:
@@ -27,5 +28,5 @@ mod runs;
 pub use base_cuboid::base;
 pub use column_dict::dict_of_column;
 pub use in_pieces::cuboid;
-pub use laws::cuboids_of_rows;
+pub use laws::{cuboids_of_rows, values_of_cuboids};
 pub use layers::{Want, layer, regroup};

@@ -5,7 +5,8 @@ use Rattle.std.specs.declared.cmp.Ordering.{Ordering}
 use Rattle.std.specs.declared.cmp.Ordering.TheVariants.{Less, Equal, Greater}
 use Rattle.std.specs.BTreeSet.{insert_key}
 use Rattle.std.specs.Ordering.{match_ordering, nat_cmp}
-use Rattle.measure_laws.specs.IdFacts.{same_ids}
+use Rattle.std.specs.List.Sorted.{IsStrictlySortedBy}
+use Rattle.measure_laws.specs.IdFacts.{different-rising, ids_laws, same_ids}
 use Rattle.measure_laws.specs.Ids.{Ids, IsCountOf, different, merged_ids}
 use Rattle.measure_laws.specs.Measures.{most_items}
 
@@ -36,6 +37,12 @@ empty (x ∷ xs) e = absurd (omega arith)
 no_more : (a b : ℕ) → (0 < a → 0 < b) → b ≡ 0 → a ≡ 0
 no_more zero b h e = refl
 no_more (suc a) b h e = let more : 0 < b = h (omega arith) in absurd (omega arith)
+
+-- the different items of a list are counted by its length
+pub count_items : (xs : List ℕ) → length xs ≤ most_items → IsCountOf (different xs) (length xs)
+count_items xs few =
+    let long = length-different xs in
+    record { few = few; fewer = long.1; none = (λ e. no_more _ _ long.0 (no_item _ e), λ e. ap different (empty xs e)) }
 
 -- the different items of two lists joined are counted by both together
 pub count_joined : (xs ys : List ℕ) (m n : ℕ) → IsCountOf xs m → IsCountOf ys n → m + n ≤ most_items → IsCountOf (different (xs ++ ys)) (m + n)
@@ -72,3 +79,7 @@ on_err (Err e) P h = h
 -- a set of the items of two sets, where those are seen under other names
 pub merged_as : (a b s t r : Ids) → a ≡ s → b ≡ t → r.items ≡ a.items + b.items → r.ids ≡ different (a.ids ++ b.ids) → r ≡ merged_ids s t
 merged_as a b s t r e f items ids = same_ids r (merged_ids a b) items ids ∙ (λ i. merged_ids (e i) (f i))
+
+-- different numbers of a list and of a rising one behind it
+pub different-joined : (xs ys : List ℕ) → IsStrictlySortedBy nat_cmp ys → different (xs ++ ys) ≡ different (different xs ++ ys)
+different-joined xs ys up = ap (λ (s : Ids). s.ids) (ids_laws.joined xs ys) ∙ ap (λ l. different (different xs ++ l)) (different-rising ys up)

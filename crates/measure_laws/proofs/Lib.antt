@@ -1,1 +1,2 @@
 pub mod IdCounts
+pub mod Unions

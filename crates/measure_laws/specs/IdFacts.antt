@@ -23,7 +23,7 @@ pub ids_code : Coded Ids
 ids_code = coded_via (coded× coded_ℕ (coded_list coded_ℕ)) (λ s. (s.items, s.ids)) (λ a b e. same_ids a b (ap (λ p. p.0) e) (ap (λ p. p.1) e))
 
 module _ (t : ℕ → Bool) where
-  any-different : (xs : List ℕ) → list_any t (different xs) ≡ list_any t xs
+  pub any-different : (xs : List ℕ) → list_any t (different xs) ≡ list_any t xs
   any-different [] = refl
   any-different (x ∷ xs) = any-insert_key nat_cmp_total nat_cmp-IsAntisymmetric t (different xs) x ∙ ap (λ b. t x || b) (any-different xs)
 
@@ -58,7 +58,7 @@ module _ (t : ℕ → Bool) where
       any-joined xs (x ∷ []) ∙ or_comm (list_any t xs) (t x || false) ∙ or_assoc (t x) false (list_any t xs)
       ∙ sym (any-insert_key nat_cmp_total nat_cmp-IsAntisymmetric t (different xs) x ∙ ap (λ b. t x || b) (any-different xs))
 
-same : (xs ys : List ℕ) → IsStrictlySortedBy nat_cmp xs → IsStrictlySortedBy nat_cmp ys → ((q : ℕ) → list_any (eq_by_cmp nat_cmp q) xs ≡ list_any (eq_by_cmp nat_cmp q) ys) → xs ≡ ys
+pub same : (xs ys : List ℕ) → IsStrictlySortedBy nat_cmp xs → IsStrictlySortedBy nat_cmp ys → ((q : ℕ) → list_any (eq_by_cmp nat_cmp q) xs ≡ list_any (eq_by_cmp nat_cmp q) ys) → xs ≡ ys
 same xs ys up_xs up_ys members = same_rising nat_cmp_total nat_cmp-IsAntisymmetric xs ys up_xs up_ys members
 
 -- lists with the same members have the same different numbers

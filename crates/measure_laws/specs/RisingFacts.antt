@@ -17,10 +17,10 @@ module _ {K : Type 0} {cmp : K → K → Ordering} (o : IsTotalOrder cmp) where
   above_from_below : (x y : K) → cmp x y ≡ Less → cmp y x ≡ Greater
   above_from_below x y e = o.antisymm y x ∙ ap ordering_reverse e
 
-  below_from_above : (x y : K) → cmp x y ≡ Greater → cmp y x ≡ Less
+  pub below_from_above : (x y : K) → cmp x y ≡ Greater → cmp y x ≡ Less
   below_from_above x y e = o.antisymm y x ∙ ap ordering_reverse e
 
-  less_trans : (x y : K) (ys : List K) → cmp x y ≡ Less → AllByRecursion (λ z. cmp y z ≡ Less) ys → AllByRecursion (λ z. cmp x z ≡ Less) ys
+  pub less_trans : (x y : K) (ys : List K) → cmp x y ≡ Less → AllByRecursion (λ z. cmp y z ≡ Less) ys → AllByRecursion (λ z. cmp x z ≡ Less) ys
   less_trans x y [] h t = tt
   less_trans x y (z ∷ zs) h t = (o.trans x y z h t.0, less_trans x y zs h t.1)
 

@@ -1,6 +1,6 @@
 // The different items.
 
-ghost use Rattle.std.specs.Prelude.{◌≡◌, ◌≤◌, ◌<◌, ◌+◌, ◌∷◌, ◌++◌, ◌↔◌, [], IfOk, OnErr, OnOk, vec_len};
+ghost use Rattle.std.specs.Prelude.{◌≡◌, ◌≤◌, ◌<◌, ◌+◌, ◌∷◌, ◌++◌, ◌↔◌, [], IfOk, OnErr, OnOk, length, vec_len};
 ghost use Rattle.std.specs.BTreeSet.{insert_key};
 ghost use Rattle.std.specs.List.Sorted.{IsStrictlySortedBy, IsStrictlySortedBy-prop};
 ghost use Rattle.std.specs.Ordering.{nat_cmp};
@@ -48,17 +48,39 @@ fn put(ids: &mut Vec<u32>, id: u32)
     }
 }
 
-// Puts numbers in their places, each unless it is there.
-fn put_all(ids: &mut Vec<u32>, more: &[u32]) -> Result<(), AllocError>
-    requires { IsStrictlySortedBy nat_cmp ids.old.items }
-    ensures ok { OnOk result (ids.new.items ≡ different (ids.old.items ++ more.now)) }
-    ensures err { OnErr result (ids.new.items ≡ ids.old.items) }
+// The numbers of two sets together, in one pass over both.
+fn union_of(alloc: Global, a: &[u32], b: &[u32]) -> Result<Vec<u32>, AllocError>
+    requires first { IsStrictlySortedBy nat_cmp a.now }
+    requires second { IsStrictlySortedBy nat_cmp b.now }
+    ensures { IfOk result (λ union. union.items ≡ different (a.now ++ b.now)) }
 {
-    ids.reserve(more.len())?;
-    for id in more {
-        put(ids, *id);
+    let mut union = Vec::with_capacity(alloc, a.len() + b.len())?;
+    let mut i = 0;
+    let mut j = 0;
+    while i < a.len() && j < b.len() {
+        let x = a[i];
+        let y = b[j];
+        union.push(x.min(y))?;
+        if x <= y {
+            i += 1;
+        }
+        if y <= x {
+            j += 1;
+        }
     }
-    Ok(())
+    union.extend_from_slice(&a[i..])?;
+    union.extend_from_slice(&b[j..])?;
+    Ok(union)
+}
+
+/// The different numbers of a list, in order.
+pub(crate) fn in_order(ids: Vec<u32>) -> Vec<u32>
+    ensures { result.items ≡ different ids.items }
+{
+    let mut ids = ids;
+    ids.sort_unstable();
+    ids.dedup();
+    ids
 }
 
 impl IdSet {
@@ -72,6 +94,17 @@ impl IdSet {
     {
         let ids = Vec::from_slice(alloc, ids)?;
         Ok(IdSet { items, ids })
+    }
+
+    /// The set of these items, by one sort. It keeps no more memory than the different ones need.
+    pub fn from_items(ids: Vec<u32>) -> Result<IdSet, AllocError>
+        requires { length ids.items ≤ most_items }
+        ensures { IfOk result (λ s. s ≡ ids_of ids.items) }
+    {
+        let items = ids.len() as u64;
+        let ids = in_order(ids);
+        let set = IdSet::of(*ids.allocator(), items, ids.as_slice())?;
+        Ok(set)
     }
 
     /// The different items, in order.
@@ -111,13 +144,14 @@ impl Measure for IdSet {
     }
 
     fn add(&mut self, v: u32) -> Result<(), AllocError> {
-        put_all(&mut self.ids, &[v])?;
+        self.ids.reserve(1)?;
+        put(&mut self.ids, v);
         self.items += 1;
         Ok(())
     }
 
     fn merge(&mut self, o: &IdSet) -> Result<(), AllocError> {
-        put_all(&mut self.ids, &o.ids)?;
+        self.ids = union_of(*self.ids.allocator(), &self.ids, &o.ids)?;
         self.items += o.items;
         Ok(())
     }

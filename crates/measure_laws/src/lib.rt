@@ -11,6 +11,7 @@
 mod count;
 mod examples;
 mod id_set;
+mod id_union;
 mod laws;
 mod max;
 mod measure;
@@ -20,6 +21,7 @@ mod sum;
 pub use count::Count;
 pub use examples::{examples_of_extremes_and_sets, worked_examples};
 pub use id_set::IdSet;
+pub use id_union::IdUnion;
 pub use laws::laws_of_measure;
 pub use max::Max;
 pub use measure::{Measure, MeasureForm};

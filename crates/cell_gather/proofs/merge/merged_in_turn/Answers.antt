@@ -5,7 +5,7 @@ use Rattle.cell_store.specs.Cells.{form_of}
 use Rattle.measure_laws.specs.Measures.{most_items}
 use Rattle.cell_gather.specs.Merges.{merged_cells}
 use Rattle.cell_gather.proofs.LoopFacts.{forms_of_merged, merged_more, merged_of, merging_room, written}
-use Rattle.cell_gather.proofs.merge.merged_rows.Goals as goal
+use Rattle.cell_gather.proofs.merge.merged_in_turn.Goals as goal
 
 pub merge_cells-requires : goal.merge_cells-requires
 merge_cells-requires c =

@@ -1,0 +1,8 @@
+use Rattle.std.proofs.Common.{◌≡◌, take, true}
+use Rattle.std.specs.List.{list_all}
+use Rattle.cell_store.specs.Columns.{key_at, lists_of}
+use Rattle.cell_store.specs.Selects.{passes_test}
+use Rattle.cell_store.proofs.select.passes.Given as goal
+
+abbrev pub invariant-loop-test : goal.invariant-loop-test
+invariant-loop-test l = list_all (passes_test (key_at (lists_of l.columns) l.place)) (take l.test-index l.tests) ≡ true
