@@ -4,9 +4,9 @@ ghost use Rattle.std.specs.Prelude.{◌<◌, IfOk, OnOk};
 ghost use Rattle.job_board.specs.BoardModel.{now};
 
 use crate::calls::{put_history, put_refused, read_fault, read_noted, read_out};
-use crate::facts::{range_of, small_table};
-use check_lines::{Words, out_of_memory, unknown_line};
-use job_board::{Board, BoardRefusal, SmallWork};
+use crate::facts::{range, rows_named};
+use check_lines::{Words, known, out_of_memory, unknown_line};
+use job_board::{Board, BoardRefusal, QueryWork, SmallWork};
 use outside::{HandFault, Honest, NoWatch, StepWork};
 use plain_answer::{AnswerTable, OutVal};
 use run_history::Control;
@@ -16,8 +16,8 @@ use std::io::Write;
 use std::sync::Arc;
 use std::thread::Threads;
 
-/// Hands of which nothing is known.
-pub struct AnyHand;
+// Hands of which nothing is known.
+struct AnyHand;
 
 impl Honest for AnyHand {
     ghost honest = { ⊥ };
@@ -31,8 +31,8 @@ struct Claimed {
     task: Vec<u8>,
 }
 
-/// Room for a turn, which was reserved before.
-pub fn has_room(board: &Board<AnyHand>) -> io::Result<()>
+// Room for a turn, which was reserved before.
+fn has_room(board: &Board<AnyHand>) -> io::Result<()>
     ensures { OnOk result (0 < board.now.room) }
 {
     if board.room() == 0 {
@@ -41,24 +41,13 @@ pub fn has_room(board: &Board<AnyHand>) -> io::Result<()>
     Ok(())
 }
 
-/// The next line of a script, with room for its turn.
-pub fn next_line(board: &Board<AnyHand>) -> io::Result<u32>
+// The next line of a script, with room for its turn.
+fn next_line(board: &Board<AnyHand>) -> io::Result<u32>
     ensures above { IfOk result (λ line. (now board.now).line < line) }
     ensures room { OnOk result (0 < board.now.room) }
 {
     has_room(board)?;
-    match board.line().checked_add(1) {
-        Some(line) => Ok(line),
-        None => Err(unknown_line()),
-    }
-}
-
-/// Rows of F, the first of which has this number.
-pub fn load(alloc: Global, board: &mut Board<AnyHand>, number: u8) -> io::Result<()> {
-    let rows = Arc::new(alloc, small_table(alloc, number)?)?;
-    let line = next_line(board)?;
-    board.load(line, 0, rows)?;
-    Ok(())
+    known(board.line().checked_add(1))
 }
 
 fn answer_load<W: Write>(
@@ -67,13 +56,11 @@ fn answer_load<W: Write>(
     words: &mut Words<'_>,
     out: &mut W,
 ) -> io::Result<()> {
-    let number = match words.next()? {
-        "first" => 1,
-        "changed" => 10,
-        _ => return Err(unknown_line()),
-    };
-    load(alloc, board, number)?;
-    write!(out, "; loaded")
+    let rows = rows_named(alloc, words.next()?)?;
+    let rows = Arc::new(alloc, rows)?;
+    let line = next_line(board)?;
+    board.load(line, 0, rows)?;
+    out.write_all(b"; loaded")
 }
 
 fn answer_build<W: Write>(
@@ -81,8 +68,7 @@ fn answer_build<W: Write>(
     words: &mut Words<'_>,
     out: &mut W,
 ) -> io::Result<()> {
-    let start = words.next()?;
-    let range = range_of(start.as_bytes(), words.next()?.as_bytes())?;
+    let range = range(words)?;
     let line = next_line(board)?;
     match board.submit(line, range) {
         Ok(number) => write!(out, "; job {number}"),
@@ -119,10 +105,10 @@ fn answer_await<W: Write>(
     let noted = read_noted(words)?;
     let line = next_line(board)?;
     if !board.may_take(&noted) {
-        return write!(out, "; waits");
+        return out.write_all(b"; waits");
     }
     board.note(line, noted);
-    write!(out, "; noted")
+    out.write_all(b"; noted")
 }
 
 fn answer_ask<W: Write>(
@@ -133,7 +119,7 @@ fn answer_ask<W: Write>(
     let session = words.number()?;
     let line = next_line(board)?;
     board.ask(line, session)?;
-    write!(out, "; asked")
+    out.write_all(b"; asked")
 }
 
 // The number of the step that is claimed is the first byte of its task.
@@ -147,19 +133,19 @@ fn answer_claim<W: Write>(
         return Err(unknown_line());
     }
     let Some(work) = board.claim()? else {
-        return write!(out, "; none");
+        return out.write_all(b"; none");
     };
-    write!(out, "; step {}", work.task.first().copied().unwrap_or(0))?;
+    let step = work.task.first().copied().unwrap_or(0);
     claims.push(Claimed {
         job: work.job,
         attempt: work.attempt,
         task: work.task,
     })?;
-    Ok(())
+    write!(out, "; step {step}")
 }
 
-/// The product of a task.
-pub fn product_of<R: Threads + Sync>(rt: &R, alloc: Global, task: &[u8]) -> io::Result<Vec<u8>> {
+// The product of a task.
+fn product_of<R: Threads + Sync>(rt: &R, alloc: Global, task: &[u8]) -> io::Result<Vec<u8>> {
     match SmallWork::work(rt, alloc, task, &mut NoWatch) {
         Ok(product) => Ok(product),
         Err(_) => Err(unknown_line()),
@@ -215,11 +201,11 @@ fn answer_end<R: Threads + Sync, W: Write>(
 ) -> io::Result<()> {
     let job = words.number()?;
     let attempt = words.number()?;
-    let given = read_given(rt, alloc, claims, job, attempt, words)?;
     has_room(board)?;
     if !board.is_claimed(job, attempt) {
         return Err(unknown_line());
     }
+    let given = read_given(rt, alloc, claims, job, attempt, words)?;
     let end = board.end_attempt(job, attempt, given);
     write!(out, "; {:?}", end.ended)
 }
@@ -235,21 +221,23 @@ fn total(answer: &AnswerTable) -> i128 {
     sum
 }
 
-// A query is taken: its line, the version, and the sum of what is answered.
+// Writes the line of a query, the version, and the sum of what is answered.
+fn put_query<W: Write>(alloc: Global, work: &QueryWork, out: &mut W) -> io::Result<()> {
+    let answer = work.cells.answer(alloc)?;
+    let (line, version, sum) = (work.line, work.version, total(&answer));
+    write!(out, "; line {line} version {version} sum {sum}")
+}
+
+// A query is taken.
 fn answer_take<W: Write>(alloc: Global, board: &mut Board<AnyHand>, out: &mut W) -> io::Result<()> {
     has_room(board)?;
     if !board.has_worker() {
         return Err(unknown_line());
     }
     let Some(work) = board.take_query()? else {
-        return write!(out, "; none");
+        return out.write_all(b"; none");
     };
-    let sum = total(&work.cells.answer(alloc)?);
-    write!(
-        out,
-        "; line {} version {} sum {sum}",
-        work.line, work.version
-    )
+    put_query(alloc, &work, out)
 }
 
 fn answer_query_end<W: Write>(
@@ -261,10 +249,10 @@ fn answer_query_end<W: Write>(
     let query = read_out(words)?;
     has_room(board)?;
     if !board.may_end(line, &query) {
-        return write!(out, "; unlawful");
+        return out.write_all(b"; unlawful");
     }
     board.end_query(line, query);
-    write!(out, "; ended")
+    out.write_all(b"; ended")
 }
 
 fn answer_state<W: Write>(
@@ -274,7 +262,7 @@ fn answer_state<W: Write>(
 ) -> io::Result<()> {
     match board.job(words.number()?) {
         Some(job) => write!(out, "; {} {} done", job.state, job.done),
-        None => write!(out, "; no job"),
+        None => out.write_all(b"; no job"),
     }
 }
 
@@ -286,11 +274,11 @@ fn answer_look<W: Write>(
     out: &mut W,
 ) -> io::Result<()> {
     match word {
-        "worker" if board.has_worker() => write!(out, "; free"),
-        "worker" => write!(out, "; busy"),
+        "worker" if board.has_worker() => out.write_all(b"; free"),
+        "worker" => out.write_all(b"; busy"),
         "state" => answer_state(board, words, out),
-        "settled" if board.settled() => write!(out, "; yes"),
-        "settled" => write!(out, "; no"),
+        "settled" if board.settled() => out.write_all(b"; yes"),
+        "settled" => out.write_all(b"; no"),
         "history" => put_history(out, board.history()),
         _ => Err(unknown_line()),
     }

@@ -5,8 +5,14 @@ use check_lines::{Words, unknown_line};
 use outside::HandFault;
 use range_list::Range;
 use run_history::{Event, Noted, QueryOut, Refused};
+use std::fmt::Debug;
 use std::io;
 use std::io::Write;
+
+/// Writes an answer.
+pub fn put<T: Debug, W: Write>(out: &mut W, answer: &T) -> io::Result<()> {
+    write!(out, "; {answer:?}")
+}
 
 /// What a command waits for: `job` and a number, `jobs`, `queries` or `nothing`.
 pub fn read_noted(words: &mut Words<'_>) -> io::Result<Noted> {
@@ -62,17 +68,17 @@ fn put_named<W: Write>(out: &mut W, word: &str, name: &[u8]) -> io::Result<()> {
 pub fn put_refused<W: Write>(out: &mut W, refused: &Refused) -> io::Result<()> {
     match refused {
         Refused::NotLoaded(table) => put_named(out, "NotLoaded", table.bytes()),
-        Refused::TooManySegments => write!(out, "; TooManySegments"),
+        Refused::TooManySegments => out.write_all(b"; TooManySegments"),
         Refused::OverlapsSegment(range) => {
-            write!(out, "; OverlapsSegment")?;
+            out.write_all(b"; OverlapsSegment")?;
             put_range(out, range)
         }
         Refused::OverlapsJob(job) => write!(out, "; OverlapsJob {job}"),
-        Refused::NoSuchSegment => write!(out, "; NoSuchSegment"),
-        Refused::NotOnBounds => write!(out, "; NotOnBounds"),
-        Refused::OneSegment => write!(out, "; OneSegment"),
+        Refused::NoSuchSegment => out.write_all(b"; NoSuchSegment"),
+        Refused::NotOnBounds => out.write_all(b"; NotOnBounds"),
+        Refused::OneSegment => out.write_all(b"; OneSegment"),
         Refused::Hole(day) => {
-            write!(out, "; Hole")?;
+            out.write_all(b"; Hole")?;
             put_day(out, *day)
         }
         Refused::LookupsDiffer(table) => put_named(out, "LookupsDiffer", table.bytes()),
@@ -84,7 +90,7 @@ pub fn put_refused<W: Write>(out: &mut W, refused: &Refused) -> io::Result<()> {
 
 /// Writes the events, in their order.
 pub fn put_history<W: Write>(out: &mut W, history: &[Event]) -> io::Result<()> {
-    write!(out, ";")?;
+    out.write_all(b";")?;
     for event in history {
         write!(out, " {event:?}")?;
     }

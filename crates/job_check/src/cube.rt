@@ -2,7 +2,7 @@
 
 ghost use Rattle.std.specs.Prelude.{None, Some, true};
 
-use crate::facts::{range_of, three_rows};
+use crate::facts::{range, rows_named};
 use check_lines::{Words, out_of_memory, put_escaped, unescaped, unknown_line};
 use fixed_cube::{
     FixedCells, FixedProduct, ProductFault, SmallWork, answer_over, fact_form, first_task,
@@ -39,8 +39,8 @@ impl Watch for StopAtOnce {
 
 // The first task of a job over three rows, of which two lie in January.
 fn flat_task(alloc: Global) -> io::Result<Vec<u8>> {
-    let january = range_of(b"2012-01-01", b"2012-02-01")?;
-    let table = three_rows(alloc, 1)?;
+    let january = range(&mut Words::new(b"2012-01-01 2012-02-01")?)?;
+    let table = rows_named(alloc, "first")?;
     if table.len() > 3 {
         return Err(unknown_line());
     }
@@ -67,30 +67,49 @@ fn put_work<R: Threads + Sync, S: Watch, W: Write>(
     watch: &mut S,
     out: &mut W,
 ) -> io::Result<()> {
-    write!(out, "; ")?;
+    out.write_all(b"; ")?;
     match SmallWork::work(rt, alloc, task, watch) {
         Ok(product) => put_escaped(out, product.as_slice()),
-        Err(WorkFault::BadTask) => write!(out, "BadTask"),
-        Err(WorkFault::Stopped) => write!(out, "Stopped"),
+        Err(WorkFault::BadTask) => out.write_all(b"BadTask"),
+        Err(WorkFault::Stopped) => out.write_all(b"Stopped"),
         Err(WorkFault::Memory) => Err(out_of_memory()),
     }
 }
 
-// A step without a stop and with one, and the work on its task with a byte more, and on half of it.
+// Writes what the work on a task with a byte more comes to.
+fn put_longer<R: Threads + Sync, W: Write>(
+    rt: &R,
+    alloc: Global,
+    task: &[u8],
+    out: &mut W,
+) -> io::Result<()> {
+    let mut longer = Vec::from_slice(alloc, task)?;
+    longer.push(0)?;
+    put_work(rt, alloc, longer.as_slice(), &mut NoWatch, out)
+}
+
+// The work on a task without a stop and with one, on the task with a byte more, and on half of it.
+fn put_works<R: Threads + Sync, W: Write>(
+    rt: &R,
+    alloc: Global,
+    task: &[u8],
+    out: &mut W,
+) -> io::Result<()> {
+    put_work(rt, alloc, task, &mut NoWatch, out)?;
+    put_work(rt, alloc, task, &mut StopAtOnce { seen: 0 }, out)?;
+    put_longer(rt, alloc, task, out)?;
+    put_work(rt, alloc, &task[..task.len() / 2], &mut NoWatch, out)
+}
+
+// A step, and what is near its task.
 fn answer_step<R: Threads + Sync, W: Write>(
     rt: &R,
     alloc: Global,
     words: &mut Words<'_>,
     out: &mut W,
 ) -> io::Result<()> {
-    let mut task = task_of(alloc, words)?;
-    put_work(rt, alloc, task.as_slice(), &mut NoWatch, out)?;
-    put_work(rt, alloc, task.as_slice(), &mut StopAtOnce { seen: 0 }, out)?;
-    let half = task.len() / 2;
-    task.push(0)?;
-    put_work(rt, alloc, task.as_slice(), &mut NoWatch, out)?;
-    task.truncate(half);
-    put_work(rt, alloc, task.as_slice(), &mut NoWatch, out)
+    let task = task_of(alloc, words)?;
+    put_works(rt, alloc, task.as_slice(), out)
 }
 
 // Writes a product as bytes.
@@ -138,26 +157,45 @@ fn changes_at(alloc: Global, task: &[u8], bytes: &mut [u8], place: usize) -> io:
     Ok(found)
 }
 
-// Whether the bytes are a product of the task, how many changes of one byte give another one, and whether they are one with a byte more.
+// How many other values of one byte, at any place, give another product.
+fn changes(alloc: Global, task: &[u8], bytes: &mut [u8]) -> io::Result<u32> {
+    let mut found = 0u32;
+    for place in 0..bytes.len() {
+        found = found.saturating_add(changes_at(alloc, task, bytes, place)?);
+    }
+    Ok(found)
+}
+
+// Writes whether the bytes are a product of the task.
+fn put_is_product<W: Write>(
+    alloc: Global,
+    task: &[u8],
+    bytes: &[u8],
+    out: &mut W,
+) -> io::Result<()> {
+    let holds = is_product(alloc, task, bytes)?;
+    write!(out, "; {holds}")
+}
+
+// Writes it of the bytes, how many changes of one byte give another product, and whether they are one with a byte more.
+fn put_changes<W: Write>(
+    alloc: Global,
+    task: &[u8],
+    bytes: &mut Vec<u8>,
+    out: &mut W,
+) -> io::Result<()> {
+    put_is_product(alloc, task, bytes.as_slice(), out)?;
+    let found = changes(alloc, task, bytes.as_mut_slice())?;
+    write!(out, "; {found}")?;
+    bytes.push(0)?;
+    put_is_product(alloc, task, bytes.as_slice(), out)
+}
+
+// A product, and bytes near it.
 fn answer_changed<W: Write>(alloc: Global, words: &mut Words<'_>, out: &mut W) -> io::Result<()> {
     let task = task_of(alloc, words)?;
     let mut bytes = unescaped(alloc, words.next()?)?;
-    write!(
-        out,
-        "; {}",
-        is_product(alloc, task.as_slice(), bytes.as_slice())?
-    )?;
-    let mut found = 0u32;
-    for place in 0..bytes.len() {
-        let more = changes_at(alloc, task.as_slice(), bytes.as_mut_slice(), place)?;
-        found = found.saturating_add(more);
-    }
-    bytes.push(0)?;
-    write!(
-        out,
-        "; {found}; {}",
-        is_product(alloc, task.as_slice(), bytes.as_slice())?
-    )
+    put_changes(alloc, task.as_slice(), &mut bytes, out)
 }
 
 // Whether the bytes are a task.
@@ -169,9 +207,9 @@ fn answer_task<R: Threads + Sync, W: Write>(
 ) -> io::Result<()> {
     let task = unescaped(alloc, words.rest())?;
     match SmallWork::work(rt, alloc, task.as_slice(), &mut NoWatch) {
-        Ok(_) => write!(out, "; task"),
-        Err(WorkFault::BadTask) => write!(out, "; BadTask"),
-        Err(WorkFault::Stopped) => write!(out, "; Stopped"),
+        Ok(_) => out.write_all(b"; task"),
+        Err(WorkFault::BadTask) => out.write_all(b"; BadTask"),
+        Err(WorkFault::Stopped) => out.write_all(b"; Stopped"),
         Err(WorkFault::Memory) => Err(out_of_memory()),
     }
 }
@@ -179,11 +217,11 @@ fn answer_task<R: Threads + Sync, W: Write>(
 fn put_cell<W: Write>(out: &mut W, cell: &OutVal) -> io::Result<()> {
     match cell {
         OutVal::Text(text) => {
-            write!(out, " ")?;
+            out.write_all(b" ")?;
             out.write_all(text.bytes())
         }
         OutVal::Whole(number) => write!(out, " {number}"),
-        _ => write!(out, " other"),
+        _ => out.write_all(b" other"),
     }
 }
 
@@ -199,7 +237,7 @@ fn cells_of(alloc: Global, bytes: &[u8]) -> io::Result<FixedCells> {
 fn put_answer<W: Write>(out: &mut W, answer: &AnswerTable) -> io::Result<()> {
     write!(out, "; {} names", answer.names.len())?;
     for row in answer.rows.as_slice() {
-        write!(out, ";")?;
+        out.write_all(b";")?;
         for cell in row.as_slice() {
             put_cell(out, cell)?;
         }

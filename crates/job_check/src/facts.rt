@@ -6,49 +6,21 @@ ghost use Rattle.step_fields.specs.Fits.{FitsRows};
 
 use byte_frame::{FieldReader, ReadError};
 use calendar::Day;
-use check_lines::{out_of_memory, unknown_line};
-use cube_val::{Row, Table, TextVal, Val};
+use check_lines::{Words, known, out_of_memory, unknown_line};
+use cube_val::Table;
 use fixed_cube::{FACT_COLUMNS, ROW_LIMIT};
 use range_list::Range;
 use std::alloc::Global;
 use std::io;
-use step_fields::{put_rows, read_rows};
+use step_fields::read_rows;
 
-fn text(alloc: Global, bytes: &[u8]) -> io::Result<Val> {
-    match TextVal::new(alloc, bytes) {
-        Ok(text) => Ok(Val::Text(text)),
-        Err(_) => Err(out_of_memory()),
-    }
-}
+// One row of the first and one of the second of January, and one of the first of February, with the numbers 1, 2 and 3.
+const FIRST: &[u8] =
+    b"\0\0\0\x03\x02\x0a2012-01-01\x02\x01a\x02\x01x\x01\0\0\0\0\0\0\0\x01\x02\x0a2012-01-02\x02\x01b\x02\x01x\x01\0\0\0\0\0\0\0\x02\x02\x0a2012-02-01\x02\x01a\x02\x01y\x01\0\0\0\0\0\0\0\x03";
 
-fn row(alloc: Global, day: &[u8], first: &[u8], second: &[u8], number: i64) -> io::Result<Row> {
-    let mut row = Row::new(alloc);
-    row.push(text(alloc, day)?)?;
-    row.push(text(alloc, first)?)?;
-    row.push(text(alloc, second)?)?;
-    row.push(Val::Int(number))?;
-    Ok(row)
-}
-
-/// One row of the first and one of the second of January, and one of the first of February, of one, two and three times this number.
-pub fn three_rows(alloc: Global, number: u8) -> io::Result<Table> {
-    let number = number as i64;
-    let mut table = Table::new(alloc);
-    table.push(row(alloc, b"2012-01-01", b"a", b"x", number)?)?;
-    table.push(row(alloc, b"2012-01-02", b"b", b"x", 2 * number)?)?;
-    table.push(row(alloc, b"2012-02-01", b"a", b"y", 3 * number)?)?;
-    Ok(table)
-}
-
-// The bytes of the rows.
-fn rows_text(alloc: Global, table: &Table) -> io::Result<Vec<u8>> {
-    if table.len() > 3 {
-        return Err(unknown_line());
-    }
-    let mut bytes = Vec::new(alloc);
-    put_rows(&mut bytes, table.rows())?;
-    Ok(bytes)
-}
+// The same rows with ten times these numbers.
+const CHANGED: &[u8] =
+    b"\0\0\0\x03\x02\x0a2012-01-01\x02\x01a\x02\x01x\x01\0\0\0\0\0\0\0\x0a\x02\x0a2012-01-02\x02\x01b\x02\x01x\x01\0\0\0\0\0\0\0\x14\x02\x0a2012-02-01\x02\x01a\x02\x01y\x01\0\0\0\0\0\0\0\x1e";
 
 // Rows that are read fit.
 fn read_table(alloc: Global, bytes: &[u8]) -> io::Result<Table>
@@ -62,22 +34,24 @@ fn read_table(alloc: Global, bytes: &[u8]) -> io::Result<Table>
     }
 }
 
-/// The same rows, as they are read from bytes.
-pub fn small_table(alloc: Global, number: u8) -> io::Result<Table>
+/// The rows of this name.
+pub fn rows_named(alloc: Global, name: &str) -> io::Result<Table>
     ensures { IfOk result (λ table. FitsRows fact_columns row_limit table) }
 {
-    let rows = three_rows(alloc, number)?;
-    let bytes = rows_text(alloc, &rows)?;
-    read_table(alloc, bytes.as_slice())
+    match name {
+        "first" => read_table(alloc, FIRST),
+        "changed" => read_table(alloc, CHANGED),
+        _ => Err(unknown_line()),
+    }
 }
 
-/// The days from one on to before another.
-pub fn range_of(start: &[u8], end: &[u8]) -> io::Result<Range> {
-    let (Some(start), Some(end)) = (Day::read(start), Day::read(end)) else {
-        return Err(unknown_line());
-    };
-    match Range::new(start, end) {
-        Some(range) => Ok(range),
-        None => Err(unknown_line()),
-    }
+// The day that the next word is.
+fn day(words: &mut Words<'_>) -> io::Result<Day> {
+    known(Day::read(words.next()?.as_bytes()))
+}
+
+/// The days from the next word on to before the one behind it.
+pub fn range(words: &mut Words<'_>) -> io::Result<Range> {
+    let start = day(words)?;
+    known(Range::new(start, day(words)?))
 }

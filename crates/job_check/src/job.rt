@@ -1,5 +1,6 @@
 // Calls on one job, with its state, its attempt and its steps done after each.
 
+use crate::calls::put;
 use check_lines::{Words, unknown_line};
 use job_machine::{Job, JobKind};
 use std::io;
@@ -11,18 +12,25 @@ fn claim<W: Write>(job: &mut Job, out: &mut W) -> io::Result<()> {
         return Err(unknown_line());
     }
     job.claim();
-    write!(out, "; claimed")
+    out.write_all(b"; claimed")
+}
+
+// The end of an attempt.
+fn answer_end<W: Write>(job: &mut Job, call: &str, attempt: u32, out: &mut W) -> io::Result<()> {
+    match call {
+        "ok" => put(out, &job.step_ok(attempt)),
+        "failed" => put(out, &job.step_failed(attempt)),
+        _ => Err(unknown_line()),
+    }
 }
 
 fn answer_call<W: Write>(job: &mut Job, words: &mut Words<'_>, out: &mut W) -> io::Result<()> {
     match words.next()? {
         "claim" => claim(job, out),
-        "pause" => write!(out, "; {:?}", job.pause()),
-        "resume" => write!(out, "; {:?}", job.resume()),
-        "discard" => write!(out, "; {:?}", job.discard()),
-        "ok" => write!(out, "; {:?}", job.step_ok(words.number()?)),
-        "failed" => write!(out, "; {:?}", job.step_failed(words.number()?)),
-        _ => Err(unknown_line()),
+        "pause" => put(out, &job.pause()),
+        "resume" => put(out, &job.resume()),
+        "discard" => put(out, &job.discard()),
+        call => answer_end(job, call, words.number()?, out),
     }
 }
 

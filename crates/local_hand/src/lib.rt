@@ -7,7 +7,5 @@
 #![tactic(auto)]
 
 mod local_hand;
-#[cfg(test)]
-mod tests;
 
 pub use local_hand::LocalHand;

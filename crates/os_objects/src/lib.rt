@@ -25,6 +25,3 @@ pub use os_stopper::OsStopper;
 pub use paths::{product_path, stop_path, task_path};
 pub use proc_hand::ProcHand;
 pub use std_sink::StdSink;
-
-#[cfg(test)]
-mod tests;

@@ -25,8 +25,6 @@ mod numbered_calls;
 mod product;
 mod sink;
 mod stopper;
-#[cfg(test)]
-mod tests;
 mod watch;
 mod work;
 
