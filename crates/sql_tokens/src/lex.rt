@@ -5,7 +5,7 @@ ghost use Rattle.std.specs.List.{prefix_len};
 ghost use Rattle.sql_tokens.specs.Cuts;
 ghost use Rattle.sql_tokens.specs.Cuts.{AreTokens};
 
-use crate::fault::SqlFault;
+use query_faults::SqlFault;
 use crate::lexeme::{Lexeme, read_lexeme};
 use crate::token::Token;
 use cube_val::Items;

@@ -3,7 +3,7 @@
 ghost use Rattle.std.specs.Prelude.{◌≡◌, IfOk, length};
 ghost use Rattle.sql_tokens.specs.Lexemes.{next_at};
 
-use crate::fault::SqlKind;
+use query_faults::SqlKind;
 use crate::kind::Kind;
 use crate::number::read_number;
 use crate::payload::Payload;

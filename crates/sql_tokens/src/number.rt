@@ -8,7 +8,7 @@ ghost use Rattle.std.specs.Str.Parse.{AllDigits, digits_value};
 ghost use Rattle.cube_val.specs.Numbers.{four_places};
 ghost use Rattle.sql_tokens.specs.Numbers;
 
-use crate::fault::SqlKind;
+use query_faults::SqlKind;
 use crate::kind::Kind;
 use crate::lexeme::Lexeme;
 use crate::payload::{Payload, UNITS, Units};

@@ -8,7 +8,7 @@ ghost use Rattle.sql_tokens.specs.Words;
 ghost use Rattle.sql_tokens.specs.Quotes.{doubled, text_behind};
 ghost use Rattle.sql_tokens.specs.Said.{joined, pending, said_of};
 
-use crate::fault::SqlKind;
+use query_faults::SqlKind;
 use crate::kind::Kind;
 use crate::lexeme::Lexeme;
 use crate::payload::Payload;

@@ -3,7 +3,7 @@
 ghost use Rattle.std.specs.Prelude.{◌≡◌, length};
 ghost use Rattle.sql_tokens.specs.Symbols;
 
-use crate::fault::SqlKind;
+use query_faults::SqlKind;
 use crate::kind::Kind;
 use crate::lexeme::Lexeme;
 use crate::payload::Payload;

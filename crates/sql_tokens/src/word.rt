@@ -4,7 +4,7 @@ ghost use Rattle.std.specs.Prelude.{◌≡◌, ◌<◌, ◌≤◌, length, IfOk}
 ghost use Rattle.std.specs.List.{prefix_len};
 ghost use Rattle.sql_tokens.specs.Words;
 
-use crate::fault::SqlKind;
+use query_faults::SqlKind;
 use crate::kind::Kind;
 use crate::lexeme::Lexeme;
 use crate::payload::Payload;
