@@ -9,3 +9,5 @@ pub mod Flights
 pub mod Queries
 pub mod Refusals
 pub mod Growth
+pub mod FewSnapshots
+pub mod Loads

@@ -12,6 +12,7 @@ mod event;
 mod examples;
 mod histories;
 mod refused;
+mod snapshots;
 
 pub use bounds::numbers_are_small;
 pub use command::{Control, Noted};
@@ -22,3 +23,4 @@ pub use histories::{
     versions_are_lawful,
 };
 pub use refused::Refused;
+pub use snapshots::{few_snapshots, loaded_stays, parts_stay};
