@@ -1,6 +1,6 @@
 -- How many snapshots a ready set is made of.
-use Rattle.std.proofs.Common.{◌≡◌, ℕ, zero, suc, ◌+◌, ◌-◌, ◌≤◌, Bool, true, false, cond, not, ◌&&◌, ◌==◌, Option, Some, None, List, [], ◌∷◌, ◌++◌, length, map, set, fold, slice_get, refl, sym, ap, ◌∙◌, subst, arith, length-append, unwrap_or}
-use Rattle.std.specs.Prelude.{count_by, filter, find, nat_lt, sum_by}
+use Rattle.std.proofs.Common.{◌≡◌, ℕ, zero, suc, ◌+◌, ◌-◌, ◌≤◌, Bool, true, false, cond, not, ◌&&◌, ◌==◌, Option, Some, None, List, [], ◌∷◌, ◌++◌, length, map, set, fold, slice_get, refl, ap, ◌∙◌, subst, arith, length-append, unwrap_or}
+use Rattle.std.specs.Prelude.{filter, find, nat_lt, sum_by}
 use Rattle.std.specs.List.{flat_map}
 use Rattle.std.proofs.lemmas.Bool.{and_parts, and_from}
 use Rattle.std.proofs.lemmas.List.Sums.{sum_by-append, sum_by-cons, sum_by_push}
@@ -84,16 +84,25 @@ readings_next : (jobs : List Submitted) (n : ℕ) (s : Submitted) (act : Act) (t
     → finished_readings jobs ≤ finished_readings (with_job jobs n (record s { job = next act s.job; tables = tables }))
 readings_next jobs n s act tables e =
     let t : Submitted = record s { job = next act s.job; tables = tables } in
-    omega (arith, readings_set jobs n s t e, cond_le (is_read s) (is_read t) (λ h. (
-    let parts = and_parts (reads_tables s.job.kind) (is_finished s.job.state) h in
-    and_from (reads_tables (next act s.job).kind) (is_finished (next act s.job).state) (ap reads_tables (same_job act s.job).kind ∙ parts.0) (finished_next act s.job parts.1)
-    )))
+    omega (
+      arith,
+      readings_set jobs n s t e,
+      cond_le (is_read s) (is_read t) (λ h. (
+          let parts = and_parts (reads_tables s.job.kind) (is_finished s.job.state) h in
+          and_from (reads_tables (next act s.job).kind) (is_finished (next act s.job).state) (ap reads_tables (same_job act s.job).kind ∙ parts.0) (finished_next act s.job parts.1)
+          )),
+    )
 
 readings_few : (jobs : List Submitted) → finished_readings jobs ≤ reading_jobs jobs
 readings_few [] = omega arith
 readings_few (s ∷ jobs) =
-    omega (arith, readings_few jobs, sum_by-cons (λ (x : Submitted). one_if (is_read x)) s jobs, sum_by-cons (λ (x : Submitted). one_if (reads_tables x.job.kind)) s jobs,
-    cond_le (is_read s) (reads_tables s.job.kind) (λ h. (and_parts (reads_tables s.job.kind) (is_finished s.job.state) h).0))
+    omega (
+      arith,
+      readings_few jobs,
+      sum_by-cons (λ (x : Submitted). one_if (is_read x)) s jobs,
+      sum_by-cons (λ (x : Submitted). one_if (reads_tables x.job.kind)) s jobs,
+      cond_le (is_read s) (reads_tables s.job.kind) (λ h. (and_parts (reads_tables s.job.kind) (is_finished s.job.state) h).0),
+    )
 
 -- ---- the sets of a run
 
@@ -155,7 +164,7 @@ module _ {Query : Type 0} where
       let before : one_if (is_read s) ≡ 0 = not_read (reads_tables s.job.kind) s.job.state running in
       let ends : t.job.state ≡ state.Finished = finish_ends s.job.state s.job running in
       let after : one_if (is_read t) ≡ one_if (reads_tables s.job.kind) =
-          ap (λ (k : JobKind). one_if (reads_tables k && is_finished t.job.state)) (same_job Act.Finish s.job).kind ∙ now_read (reads_tables s.job.kind) t.job.state ends in
+      ap (λ (k : JobKind). one_if (reads_tables k && is_finished t.job.state)) (same_job Act.Finish s.job).kind ∙ now_read (reads_tables s.job.kind) t.job.state ends in
       let moved = few_moved most w.jobs (with_job w.jobs n t) w.past w.ready (readings_next w.jobs n s Act.Finish s.tables at) h in
       few_next most (with_job w.jobs n t) w.past w.ready (swapped new w.ready)
       (omega (arith, snapshots_swapped new w.ready, length_parts s.job.kind w s, readings_set w.jobs n s t at, before, after, h.ready_few)) moved

@@ -11,3 +11,4 @@ pub mod Refusals
 pub mod Growth
 pub mod FewSnapshots
 pub mod Loads
+pub mod MergedRows

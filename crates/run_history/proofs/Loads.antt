@@ -1,5 +1,5 @@
 -- Where the tables of a job's snapshot come from.
-use Rattle.std.proofs.Common.{◌≡◌, ℕ, zero, suc, ◌+◌, ◌-◌, ◌<◌, ◌⊎◌, Bool, true, false, cond, ◌==◌, Option, Some, None, List, [], ◌∷◌, ◌++◌, length, map, set, fold, slice_get, refl, sym, ap, ◌∙◌, subst, inl, inr, arith, length-set, unwrap_or}
+use Rattle.std.proofs.Common.{◌≡◌, ℕ, zero, suc, ◌+◌, ◌-◌, ◌⊎◌, Bool, true, false, cond, ◌==◌, Option, Some, None, List, [], ◌∷◌, ◌++◌, length, map, set, slice_get, refl, sym, ap, ◌∙◌, subst, inl, inr, arith, length-set, unwrap_or}
 use Rattle.std.specs.Prelude.{Contains, find, is_some, ⊤}
 use Rattle.std.proofs.lemmas.Bool.{eq-eqb}
 use Rattle.std.proofs.lemmas.List.{length-map}
@@ -179,7 +179,7 @@ module _ {Query : Type 0} where
       all = ap (λ (l : List (Option Rows)). length l) loaded ∙ h.all;
       each = λ place rows e. h.each place rows (ap (λ (l : List (Option Rows)). slice_get l place) (sym loaded) ∙ e);
       jobs = subst (λ (l : List (Option Rows)). Every (HasRead P count l) v.jobs) (sym loaded) (subst (Every (HasRead P count w.loaded)) (sym jobs)
-      (every_with (HasRead P count w.loaded) w.jobs n s (record s { job = next act s.job }) at (read_moved P count w.loaded act s) h.jobs));
+          (every_with (HasRead P count w.loaded) w.jobs n s (record s { job = next act s.job }) at (read_moved P count w.loaded act s) h.jobs));
     }
 
     read_ended : (w : World Query) (n : ℕ) (s : Submitted) (how : Ended) → job_at w.jobs n ≡ Some s → HaveRead P count w → HaveRead P count (ended_as how w n s)
@@ -248,7 +248,7 @@ module _ {Query Answer : Type 0} (cube : CubeSemantics Query Answer) (P : ℕ �
     all = h.all;
     each = h.each;
     jobs = every_append (HasRead P (length cube.tables) w.loaded) w.jobs (record { job = new_job (length w.jobs + 1) kind (cube.steps kind); range = r; tables = None } ∷ []) h.jobs
-    ((λ reads. (submit_loaded w kind r h.all e reads, (λ first k. cc))), tt);
+        ((λ reads. (submit_loaded w kind r h.all e reads, (λ first k. cc))), tt);
   }
   read_accepted w line (Drop r) p e h = read_same P (length cube.tables) w (accepted 0 (record w { line = line }) (Drop r)) refl refl h
   read_accepted w line (Steer control n) p e h = read_steered P (length cube.tables) (record w { line = line }) control n (job_of w n) refl (read_same P (length cube.tables) w (record w { line = line }) refl refl h)

@@ -9,7 +9,7 @@ use Rattle.run_history.specs.Commands.{Turn}
 use Rattle.run_history.specs.Commands.Command.{Load, Submit, Drop, Steer, Ask, Note}
 use Rattle.run_history.specs.Commands.Turn.{Takes, Claims, StepEnds, QueryTakes, QueryEnds}
 use Rattle.run_history.specs.Cubes.{CubeSemantics, Rows}
-use Rattle.run_history.specs.Sets.{rows_of}
+use Rattle.run_history.specs.Sets.{ReadySet, rows_of}
 use Rattle.run_history.specs.Steps.{world}
 use Rattle.run_history.specs.World.{World, set_at}
 use Rattle.run_history.specs.declared.command.Control.TheVariants.{Pause, Resume, Discard}
@@ -122,3 +122,10 @@ taken_late = world counting 1 [] (
     Takes 1 (Load 0 two_rows) ∷ Takes 2 (Submit Build january) ∷ Claims 1 1 ∷ StepEnds 1 1 Done ∷ Claims 1 2 ∷ Takes 3 (Ask 0 0)
     ∷ StepEnds 1 2 Done ∷ QueryTakes 3 ∷ []
     )
+
+-- a run that starts with January, which is dropped and built
+abbrev pub with_january : ReadySet
+with_january = record { range = january; job = 7; origin = record { tables = two_rows ∷ []; range = january } ∷ [] } ∷ []
+
+abbrev pub after_dropped : World ℕ
+after_dropped = world counting 1 with_january (Takes 1 (Load 0 two_rows) ∷ Takes 2 (Drop january) ∷ Takes 3 (Submit Build january) ∷ [])

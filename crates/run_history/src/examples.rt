@@ -1,17 +1,18 @@
 // Histories of a small cube, computed from the definitions.
 
 ghost use Rattle.std.specs.Prelude.{◌≡◌, true, [], ◌∷◌, ◌++◌, codes, map, option_map, Some, None};
-ghost use Rattle.run_history.specs.Examples.{after_built, after_discarded, after_killed, after_merged, both_months, counting, discarded, february, january, killed, less_one, march, merged, paused, resumed, rows_seen, taken_late, three_months, two_rows, waiting, while_merging, with_gap};
+ghost use Rattle.run_history.specs.Examples.{after_built, after_discarded, after_dropped, after_killed, after_merged, both_months, counting, discarded, february, january, killed, less_one, march, merged, paused, resumed, rows_seen, taken_late, three_months, two_rows, waiting, while_merging, with_gap, with_january};
 ghost use Rattle.run_history.specs.Commands.{Command};
-ghost use Rattle.run_history.specs.Commands.Command.{Drop, Note, Steer, Submit};
+ghost use Rattle.run_history.specs.Commands.Command.{Drop, Load, Note, Steer, Submit};
 ghost use Rattle.run_history.specs.Commands.Turn.{Claims, QueryEnds, Takes};
 ghost use Rattle.run_history.specs.declared.command.Noted.TheVariants.{AwaitJob};
 ghost use Rattle.run_history.specs.declared.event.QueryOut.TheVariants.{Answered};
 ghost use Rattle.run_history.specs.Steps.{world};
 ghost use Rattle.run_history.specs.Histories.{Along, Allowed, IsFresh, is_settled};
-ghost use Rattle.run_history.specs.Sets.{rows_of};
+ghost use Rattle.run_history.specs.Sets.{rows_of, snapshots_in};
+ghost use Rattle.run_history.specs.Snapshots.{loads_of, tables_of};
 ghost use Rattle.run_history.specs.Verdicts.{verdict};
-ghost use Rattle.run_history.specs.World.{busy, job_of, next_task, number, set_at, start};
+ghost use Rattle.run_history.specs.World.{busy, finished_readings, job_of, next_task, number, reading_jobs, set_at, start};
 ghost use Rattle.job_machine.specs.declared.state.JobKind.TheVariants.{Build, Merge, Refresh};
 ghost use Rattle.job_machine.specs.declared.state.JobState.TheVariants.{Discarded, Finished, Running};
 ghost use Rattle.run_history.specs.declared.command.Control.TheVariants.{Discard, Pause, Resume};
@@ -78,4 +79,18 @@ pub fn worked_queue()
     ensures too_old { IsFresh taken_late (QueryEnds 3 (Answered 0)) → ⊥ }
     ensures not_loaded { verdict counting (start 1 1 []) (Submit Build january) ≡ Some (NotLoaded (codes "F")) }
     ensures not_loaded_first { verdict counting (start 1 1 []) (Submit Refresh january) ≡ Some (NotLoaded (codes "F")) }
+{}
+
+/// A set that a run starts with, the snapshots of sets, and the loads that tables come from.
+pub fn worked_snapshots()
+    ensures first { set_at after_dropped 0 ≡ with_january }
+    ensures second { set_at after_dropped 1 ≡ [] }
+    ensures accepted { map (λ s. s.job.id) after_dropped.jobs ≡ 1 ∷ [] }
+    ensures overlaps { verdict counting (world counting 1 with_january (Takes 1 (Load 0 two_rows) ∷ [])) (Submit Build january) ≡ Some (OverlapsSegment january) }
+    ensures start_snapshots { snapshots_in with_january ≡ 1 }
+    ensures merged_snapshots { snapshots_in (set_at after_merged 3) ≡ 2 }
+    ensures readings { reading_jobs after_merged.jobs ≡ 3 }
+    ensures finished { finished_readings after_merged.jobs ≡ 2 }
+    ensures loads { loads_of 0 merged ≡ two_rows ∷ [] }
+    ensures tables { option_map (tables_of after_merged) (job_of after_merged 4) ≡ Some (two_rows ∷ []) }
 {}

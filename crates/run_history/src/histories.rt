@@ -1,8 +1,10 @@
 // What holds over every legal history.
 
 ghost use Rattle.std.specs.Prelude.{◌≡◌, ◌≤◌, ◌↔◌, ◌+◌, ◌==◌, ℕ, true, false, All, List, find, fold, length, Some};
+ghost use Rattle.std.specs.List.{list_any};
 ghost use Rattle.job_machine.specs.Job.{is_current};
 ghost use Rattle.job_machine.specs.declared.state.JobKind.{JobKind};
+ghost use Rattle.job_machine.specs.declared.state.JobKind.TheVariants.{Build, Merge, Refresh};
 ghost use Rattle.job_machine.specs.declared.state.JobState.TheVariants.{Discarded};
 ghost use Rattle.range_list.specs.Ranges.{Interval, IsApart};
 ghost use Rattle.run_history.specs.Commands.{Command, Turn};
@@ -10,10 +12,10 @@ ghost use Rattle.run_history.specs.Commands.Command.{Ask, Load, Note, Steer, Sub
 ghost use Rattle.run_history.specs.Commands.Turn.{Claims, QueryEnds, QueryTakes, StepEnds, Takes};
 ghost use Rattle.run_history.specs.Cubes.{CubeSemantics, Rows};
 ghost use Rattle.run_history.specs.Histories.{Along, Allowed, HasFreshAnswers, IsFresh, IsLawful, IsLegal};
-ghost use Rattle.run_history.specs.Invariants.{AreClaims, AreQueries, HasSteps, IsLeastOverlap, IsSound, IsStart, ranges_of};
+ghost use Rattle.run_history.specs.Invariants.{AreClaims, AreQueries, CanMerge, HasSteps, IsLeastOverlap, IsSound, IsStart, ranges_of};
 ghost use Rattle.run_history.specs.Kept.{IsJobKept, IsKept, SameSets, ends_query};
 ghost use Rattle.run_history.specs.Steps.{step, world};
-ghost use Rattle.run_history.specs.Verdicts.{most_segments, overlaps_job, too_many_segments, verdict};
+ghost use Rattle.run_history.specs.Verdicts.{is_ready, most_segments, overlaps_job, too_many_segments, verdict};
 ghost use Rattle.run_history.specs.World.{Asked, Submitted, World, is_live, job_of, live_builds, next_task, set_at};
 ghost use Rattle.run_history.specs.declared.command.Control.{Control};
 ghost use Rattle.run_history.specs.declared.command.Noted.{Noted};
@@ -94,4 +96,15 @@ pub fn refusals_are_exact<Query, Answer>()
         → overlaps_job cube range w ≡ Some (OverlapsJob job) → IsLeastOverlap w range job }
     ensures swap { (cube : CubeSemantics Query Answer) (w : World Query) → IsSound cube w → (job : ℕ) (s : Submitted) → job_of w job ≡ Some s
         → is_live s.job.state ≡ true → All (λ other. is_overlap other.range s.range ≡ true → is_inside s.range other.range ≡ true) w.ready }
+{}
+
+/// In a world that a legal history reaches a live BUILD's range overlaps no ready segment, a live REFRESH's is that of one, and that of a
+/// live MERGE is filled end to end by two at least, whose lookups don't differ.
+pub fn live_jobs_are_in_place<Query, Answer>()
+    ensures build { (cube : CubeSemantics Query Answer) (w : World Query) → IsSound cube w → (job : ℕ) (s : Submitted) → job_of w job ≡ Some s
+        → is_live s.job.state ≡ true → s.job.kind ≡ Build → list_any (λ other. is_overlap other.range s.range) w.ready ≡ false }
+    ensures refresh { (cube : CubeSemantics Query Answer) (w : World Query) → IsSound cube w → (job : ℕ) (s : Submitted) → job_of w job ≡ Some s
+        → is_live s.job.state ≡ true → s.job.kind ≡ Refresh → is_ready s.range w.ready ≡ true }
+    ensures merge { (cube : CubeSemantics Query Answer) (w : World Query) → IsSound cube w → (job : ℕ) (s : Submitted) → job_of w job ≡ Some s
+        → is_live s.job.state ≡ true → s.job.kind ≡ Merge → CanMerge cube s.range w.ready }
 {}
