@@ -33,6 +33,10 @@ use Rattle.run_history.proofs.Laws.{reached, job_at-with_job, job_at-with_other,
 use Rattle.run_history.proofs.Jobs.{same_job, job_moves, job_is_new, steer_live, pause_rests, discard_rests, resume_waits, claim_live, claim_rests, current_counts, by_advanced, by_finished, by_failed, advance_waits, fail_rests, finish_ends, flight_rests, running_live, flight_next}
 use Rattle.run_history.proofs.InPlace.{place_dropped, place_swapped, place_inside, place_replaces, length_swapped, found, first_none}
 
+-- a run may start with no segment
+pub empty_starts : IsStart []
+empty_starts = record { apart = to_apart [] tt; few = omega arith }
+
 -- ---- the queue
 
 abbrev one_if : Bool → ℕ

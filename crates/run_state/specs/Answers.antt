@@ -63,7 +63,7 @@ abbrev pub named : {Q : Type 0} → List (List ℕ) → CubeSemantics Q ⊤
 named names = record {
   tables = names;
   steps = λ kind. 0;
-  task = λ kind parts done. [];
+  task = λ kind range parts done. [];
   product = λ task. [];
   is_product = λ task bytes. false;
   rows = λ snapshot. [];
