@@ -12,6 +12,7 @@ use Rattle.run_history.specs.Sets.{ReadySet, Segment, is_same_range}
 use Rattle.run_history.specs.Verdicts.{days_from, first_free_day, first_of, is_held, is_on_bounds, is_ready, refused_if}
 use Rattle.run_history.specs.declared.refused.Refused.{Refused}
 use Rattle.run_history.specs.declared.refused.Refused.TheVariants as refused
+use Rattle.run_state.specs.Answers.{of_cover}
 use Rattle.run_history.proofs.Lists.{Every, any_false, any_none, every_map, false_or, find_none, from_all, not_false, or_split, to_all}
 use Rattle.run_state.proofs.Lists.{any_map, some_eq}
 
@@ -82,8 +83,7 @@ on_bounds r set h = by (list_any (starts r) (ranges_of set)) (list_any (ends r) 
 
 bounds_there : (r : Interval) (set : ReadySet) → is_on_bounds r set ≡ true → IsOnBounds (ranges_of set) r
 bounds_there r set h =
-    let parts = and_parts (list_any (λ s. s.range.start == r.start) set) (list_any (λ s. s.range.end == r.end) set) h in
-    (
+    let parts = and_parts (list_any (λ s. s.range.start == r.start) set) (list_any (λ s. s.range.end == r.end) set) h in (
       any_is (λ (x : Interval). x.start ≡ r.start) (starts r) (λ x t. eqb-true x.start r.start t) (ranges_of set) (start_tested r set ∙ parts.0),
       any_is (λ (x : Interval). x.end ≡ r.end) (ends r) (λ x t. eqb-true x.end r.end t) (ranges_of set) (end_tested r set ∙ parts.1),
     )
@@ -210,3 +210,36 @@ first_of_five None None (Some x) d e = refl
 first_of_five None None None (Some x) e = refl
 first_of_five None None None None None = refl
 first_of_five None None None None (Some x) = refl
+
+-- ---- a covering's refusal
+
+module _ (r : Interval) (rs : List Interval) (set : ReadySet) (same : ranges_of set ≡ rs) (c : Cover) (off : (c ≡ cover.NotOnBounds) ↔ IsOffBounds rs r)
+    (hole : (day : ℕ) → (c ≡ cover.Hole day) ↔ (IsOnBounds rs r × IsFirstFreeDay rs r day)) where
+  off_here : (c ≡ cover.NotOnBounds) ↔ IsOffBounds (ranges_of set) r
+  off_here = subst (λ (l : List Interval). (c ≡ cover.NotOnBounds) ↔ IsOffBounds l r) (sym same) off
+
+  hole_here : (day : ℕ) → (c ≡ cover.Hole day) ↔ (IsOnBounds (ranges_of set) r × IsFirstFreeDay (ranges_of set) r day)
+  hole_here = subst (λ (l : List Interval). (day : ℕ) → (c ≡ cover.Hole day) ↔ (IsOnBounds l r × IsFirstFreeDay l r day)) (sym same) hole
+
+  one_here : list_any (λ other. is_same_range r other) rs ≡ is_ready r set
+  one_here = ap (list_any (is_same_range r)) (sym same) ∙ any_map (λ (s : Segment). s.range) (is_same_range r) set
+
+  pub told_off : c ≡ cover.NotOnBounds → Some refused.NotOnBounds ≡ of_cover (is_on_bounds r set) (is_ready r set) (first_free_day r set)
+  told_off e = sym (ap (λ (b : Bool). of_cover b (is_ready r set) (first_free_day r set)) (cover_off r set c off_here hole_here e))
+
+  -- on bounds, by whether one segment has the range, and by the first free day
+  told_on : c ≢ cover.NotOnBounds → (day : Option ℕ) → first_free_day r set ≡ day → (x : Option Refused) → x ≡ option_or (refused_if (list_any (λ other. is_same_range r other) rs) refused.OneSegment) (option_map refused.Hole day)
+      → x ≡ of_cover (is_on_bounds r set) (is_ready r set) (first_free_day r set)
+  told_on n day e x h =
+      h
+      ∙ (ap (λ (b : Bool). option_or (refused_if b refused.OneSegment) (option_map refused.Hole day)) one_here
+      ∙ (sym (first_of_two (refused_if (is_ready r set) refused.OneSegment) (option_map refused.Hole day))
+      ∙ sym (ap (λ (b : Bool). of_cover b (is_ready r set) (first_free_day r set)) (cover_on r set c off_here hole_here n) ∙ ap (of_cover true (is_ready r set)) e)))
+
+  pub told_hole : (day : ℕ) → c ≡ cover.Hole day → (x : Option Refused) → x ≡ option_or (refused_if (list_any (λ other. is_same_range r other) rs) refused.OneSegment) (Some (refused.Hole day))
+      → x ≡ of_cover (is_on_bounds r set) (is_ready r set) (first_free_day r set)
+  told_hole day e x h = told_on (λ n. cc) (Some day) (cover_hole r set c off_here hole_here day e) x h
+
+  pub told_parts : (first count : ℕ) → c ≡ cover.Parts first count → (x : Option Refused) → x ≡ option_or (refused_if (list_any (λ other. is_same_range r other) rs) refused.OneSegment) None
+      → x ≡ of_cover (is_on_bounds r set) (is_ready r set) (first_free_day r set)
+  told_parts first count e x h = told_on (λ n. cc) None (cover_parts r set c off_here hole_here (λ n. cc) (λ day n. cc)) x h

@@ -62,3 +62,31 @@ module _ {Q : Type 0} (w : World Q) (r : Interval) where
 pub merge_lookups : {Query Answer : Type 0} (cube : CubeSemantics Query Answer) (w : World Query) (r : Interval) → verdict cube w (Submit Merge r) ≡ option_or (verdict (named []) w (Submit Merge r)) (lookups_differ cube r w)
 merge_lookups cube w r =
     first_of_five (refused_if (not (is_on_bounds r w.ready)) refused.NotOnBounds) (refused_if (is_ready r w.ready) refused.OneSegment) (hole cube r w) (overlaps_job cube r w) (lookups_differ cube r w)
+
+-- ---- what the calls put together
+
+module _ {T P S Q : Type 0} (rows : T → Rows) (w : World Q) (s : RunState T P S Q) (i : IsStateOf rows w s) (orderly : IsOrderly s) (r : Interval) where
+  abbrev one_kept : Bool
+  one_kept = list_any (λ other. is_same_range r other) s.ranges
+
+  abbrev job_kept : Option Refused
+  job_kept = option_map refused.OverlapsJob (option_map (λ (e : JobEntry T P). e.job.id) (find (λ (e : JobEntry T P). is_live e.job.state && is_overlap e.range r) s.jobs.items))
+
+  job_here : (names : List (List ℕ)) → overlaps_job (named names) r w ≡ job_kept
+  job_here names = job_told rows w s i names r (option_map (λ (e : JobEntry T P). e.job.id) (find (λ (e : JobEntry T P). is_live e.job.state && is_overlap e.range r) s.jobs.items)) refl
+
+  pub drop_told : (segment job both : Option Refused) → both ≡ option_or segment job → segment ≡ refused_if (not one_kept) refused.NoSuchSegment → job ≡ job_kept → both ≡ verdict (named []) w (Drop r)
+  drop_told segment job both h a b =
+      h ∙ (ap (λ (x : Option Refused). option_or x job) a ∙ (ap (option_or (refused_if (not one_kept) refused.NoSuchSegment)) b
+      ∙ drop_by w r one_kept job_kept (ready_here rows w s i orderly r one_kept refl) (job_here [])))
+
+  pub refresh_told : (names : List (List ℕ)) (segment job both : Option Refused) → not_loaded (named names) w ≡ None → both ≡ option_or segment job → segment ≡ refused_if (not one_kept) refused.NoSuchSegment
+      → job ≡ job_kept → both ≡ verdict (named names) w (Submit Refresh r)
+  refresh_told names segment job both n h a b =
+      h ∙ (ap (λ (x : Option Refused). option_or x job) a ∙ (ap (option_or (refused_if (not one_kept) refused.NoSuchSegment)) b
+      ∙ refresh_by w r names one_kept job_kept n (ready_here rows w s i orderly r one_kept refl) (job_here names)))
+
+  pub merge_told : (range job both : Option Refused) → both ≡ option_or range job → range ≡ of_cover (is_on_bounds r w.ready) (is_ready r w.ready) (first_free_day r w.ready) → job ≡ job_kept
+      → both ≡ verdict (named []) w (Submit Merge r)
+  merge_told range job both h a b =
+      h ∙ (ap (λ (x : Option Refused). option_or x job) a ∙ (ap (option_or (of_cover (is_on_bounds r w.ready) (is_ready r w.ready) (first_free_day r w.ready))) b ∙ merge_by w r job_kept (job_here [])))
