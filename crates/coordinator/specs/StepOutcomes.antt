@@ -1,5 +1,5 @@
 -- How the outcomes of steps follow from what the hand did: the faults that attempts meet, where it tells them, and its calls.
-use Rattle.std.specs.Prelude.{◌≡◌, ◌⊎◌, ◌≤◌, ◌==◌, ◌&&◌, ⊤, ℕ, Bool, true, false, List, ◌∷◌, ◌++◌, All, Contains, Option, Some, None, count_by}
+use Rattle.std.specs.Prelude.{◌≡◌, ◌⊎◌, ◌≤◌, ◌==◌, ◌&&◌, ⊤, ℕ, Bool, true, false, List, [], ◌∷◌, ◌++◌, All, Contains, Option, Some, None, count_by}
 use Rattle.fixed_state.specs.Ends.{outcome_of}
 use Rattle.outside.specs.Hands.{Call, Fail, fault_for}
 use Rattle.outside.specs.declared.hand.HandFault.{HandFault}

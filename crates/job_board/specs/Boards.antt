@@ -1,5 +1,5 @@
 -- What holds of every board.
-use Rattle.std.specs.Prelude.{◌≡◌, ℕ, List}
+use Rattle.std.specs.Prelude.{◌≡◌, ℕ, List, []}
 use Rattle.fixed_cube.specs.Cube.{fixed}
 use Rattle.fixed_state.specs.Kept.{AreKept}
 use Rattle.fixed_state.specs.States.{FixedState, StandsFor}
