@@ -10,12 +10,7 @@ use run_history::Refused;
 use std::alloc::{AllocError, Global};
 
 // The kind of a fault and its place, behind a word.
-fn fault_text(
-    alloc: Global,
-    word: &[u8],
-    kind: &str,
-    place: u32,
-) -> Result<Vec<u8>, AllocError>
+fn fault_text(alloc: Global, word: &[u8], kind: &str, place: u32) -> Result<Vec<u8>, AllocError>
     ensures { IfOk result (λ text. text.items ≡ word.now ++ kind.now ++ codes " " ++ decimal place) }
 {
     let mut text = with_text(alloc, word, kind.as_bytes())?;

@@ -31,7 +31,6 @@ mod token;
 mod word;
 
 pub use examples::worked_examples;
-
 pub use kind::Kind;
 pub use laws::{places_rise, quotes_are_doubled, tokens_are_unique};
 pub use lex::{Lexed, SQL_MAX, tokens_of};
