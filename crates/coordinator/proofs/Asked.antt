@@ -34,8 +34,8 @@ stops_over : (inputs inputs' : Inputs) → inputs ≡ inputs' → (board : Board
 stops_over inputs inputs' same board history front e =
     subst (λ (i : Inputs). stops_of served i history ≡ []) same
     (ap (stops_of served inputs) e
-    ∙ (ap (stops_along fixed (start inputs.workers (length fixed.tables))) front.named
-    ∙ (ap (λ (n : ℕ). stops_along fixed (start n (length fixed.tables)) (turns board)) (sym front.workers) ∙ front.no_stops)))
+    ∙ (ap (stops_along fixed (start inputs.workers (length fixed.tables) [])) front.named
+    ∙ (ap (λ (n : ℕ). stops_along fixed (start n (length fixed.tables) []) (turns board)) (sym front.workers) ∙ front.no_stops)))
 
 stops_none : (inputs : Inputs) (history : List Event) → history ≡ [] → stops_of served inputs history ≡ []
 stops_none inputs history e = ap (stops_of served inputs) e

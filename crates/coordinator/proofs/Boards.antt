@@ -60,19 +60,19 @@ same-equal old mid new s e = subst (IsSame old) (sym e) s
 
 pub now-same : (old new : BoardModel) → IsSame old new → now new ≡ now old
 now-same old new s =
-    ap (λ (n : ℕ). world fixed n (turns new)) s.workers ∙ ap (λ (ts : List (Turn Ask)). world fixed old.workers ts) (ap board_turns.turns_of s.log)
+    ap (λ (n : ℕ). world fixed n [] (turns new)) s.workers ∙ ap (λ (ts : List (Turn Ask)). world fixed old.workers [] ts) (ap board_turns.turns_of s.log)
 
 module _ (old new : BoardModel) (later : List (Turn Ask)) (g : IsGrown old later new) where
   pub now-grown : now new ≡ fold (step fixed) (now old) later
   now-grown =
-      ap (λ (n : ℕ). world fixed n (turns new)) g.workers
-      ∙ (ap (λ (ts : List (Turn Ask)). world fixed old.workers ts) g.turns ∙ fold-append (step fixed) (start old.workers (length fixed.tables)) (turns old) later)
+      ap (λ (n : ℕ). world fixed n [] (turns new)) g.workers
+      ∙ (ap (λ (ts : List (Turn Ask)). world fixed old.workers [] ts) g.turns ∙ fold-append (step fixed) (start old.workers (length fixed.tables) []) (turns old) later)
 
   pub entries-grown : (script : List Line) → entries_in script new ≡ entries_along served script (now old) (entries_in script old) later
   entries-grown script =
-      ap (λ (n : ℕ). entries_along served script (start n (length fixed.tables)) [] (turns new)) g.workers
-      ∙ (ap (λ (ts : List (Turn Ask)). entries_along served script (start old.workers (length fixed.tables)) [] ts) g.turns
-      ∙ entries_along-append served script (start old.workers (length fixed.tables)) [] (turns old) later)
+      ap (λ (n : ℕ). entries_along served script (start n (length fixed.tables) []) [] (turns new)) g.workers
+      ∙ (ap (λ (ts : List (Turn Ask)). entries_along served script (start old.workers (length fixed.tables) []) [] ts) g.turns
+      ∙ entries_along-append served script (start old.workers (length fixed.tables) []) [] (turns old) later)
 
   pub named-grown : (inputs : Inputs) → turns_of served inputs (map event_of (turns old)) ≡ turns old → turns_of served inputs (map event_of later) ≡ later
       → turns_of served inputs (map event_of (turns new)) ≡ turns new
@@ -98,9 +98,9 @@ stops_append w (turn ∷ turns) later =
 
 pub no-stops-grown : (old new : BoardModel) (later : List (Turn Ask)) → IsGrown old later new → stops_along fixed (now old) later ≡ [] → stops_in old ≡ [] → stops_in new ≡ []
 no-stops-grown old new later g more none =
-    ap (λ (n : ℕ). stops_along fixed (start n (length fixed.tables)) (turns new)) g.workers
-    ∙ (ap (stops_along fixed (start old.workers (length fixed.tables))) g.turns
-    ∙ (stops_append (start old.workers (length fixed.tables)) (turns old) later
+    ap (λ (n : ℕ). stops_along fixed (start n (length fixed.tables) []) (turns new)) g.workers
+    ∙ (ap (stops_along fixed (start old.workers (length fixed.tables) [])) g.turns
+    ∙ (stops_append (start old.workers (length fixed.tables) []) (turns old) later
     ∙ (ap (λ (rs : List Request). rs ++ stops_along fixed (now old) later) none ∙ more)))
 
 stops_steps : (w : World Ask) (later : List (Turn Ask)) → AllByRecursion IsOfStep later → stops_along fixed w later ≡ []
@@ -151,9 +151,9 @@ pub trusted-grown : (honest : Type 0) (old new : BoardModel) (later : List (Turn
     → AreTrusted honest old.workers (turns old) × (honest ⊎ Along fixed IsOverNone (now old) later)
 trusted-grown honest old new later g (inl h) = (inl h, inl h)
 trusted-grown honest old new later g (inr h) =
-    let k = subst (λ (n : ℕ). Along fixed IsOverNone (start n (length fixed.tables)) (turns old ++ later)) g.workers
-    (subst (λ (ts : List (Turn Ask)). Along fixed IsOverNone (start new.workers (length fixed.tables)) ts) g.turns h) in
-    let parts = along-parts IsOverNone (start old.workers (length fixed.tables)) (turns old) later k in
+    let k = subst (λ (n : ℕ). Along fixed IsOverNone (start n (length fixed.tables) []) (turns old ++ later)) g.workers
+    (subst (λ (ts : List (Turn Ask)). Along fixed IsOverNone (start new.workers (length fixed.tables) []) ts) g.turns h) in
+    let parts = along-parts IsOverNone (start old.workers (length fixed.tables) []) (turns old) later k in
     (inr parts.0, inr parts.1)
 
 -- ---- claims and ends of steps

@@ -51,9 +51,9 @@ parts_kept Merge w job attempt s = refl
 -- a claim leaves the task
 pub task_kept : (w : World Query) (job attempt : ℕ) (s : Submitted) → next_task fixed (claimed w job attempt (Some s)) (claimed_job w s) ≡ next_task fixed w s
 task_kept w job attempt s =
-    ap (λ (n : ℕ). fixed.task (next Act.Claim s.job).kind (parts_by (next Act.Claim s.job).kind (claimed w job attempt (Some s)) (claimed_job w s)) n) (done_kept (state_after Act.Claim s.job.state) s.job)
-    ∙ (ap (λ (kind : JobKind). fixed.task kind (parts_by kind (claimed w job attempt (Some s)) (claimed_job w s)) s.job.done) (kind_kept (state_after Act.Claim s.job.state) s.job)
-    ∙ ap (λ (parts : List (List Snapshot)). fixed.task s.job.kind parts s.job.done) (parts_kept s.job.kind w job attempt s))
+    ap (λ (n : ℕ). fixed.task (next Act.Claim s.job).kind s.range (parts_by (next Act.Claim s.job).kind (claimed w job attempt (Some s)) (claimed_job w s)) n) (done_kept (state_after Act.Claim s.job.state) s.job)
+    ∙ (ap (λ (kind : JobKind). fixed.task kind s.range (parts_by kind (claimed w job attempt (Some s)) (claimed_job w s)) s.job.done) (kind_kept (state_after Act.Claim s.job.state) s.job)
+    ∙ ap (λ (parts : List (List Snapshot)). fixed.task s.job.kind s.range parts s.job.done) (parts_kept s.job.kind w job attempt s))
 
 task_found : (w : World Query) (job attempt : ℕ) (found : Option Submitted) (task : List ℕ) → job_of w job ≡ found → IsNextAttempt found attempt
     → ((s : Submitted) → found ≡ Some s → task ≡ next_task fixed w s)

@@ -320,5 +320,5 @@ module _ (w : World Query) (products : List (List (List ℕ))) (h : HasTasks w p
   tasks-query_ended line out = answered_tasks line out (find (λ q. q.waiting.line == line) w.asked)
 
 -- before the first turn
-pub tasks-start : (workers : ℕ) → HasTasks (start workers (length fixed.tables)) []
+pub tasks-start : (workers : ℕ) → HasTasks (start workers (length fixed.tables) []) []
 tasks-start workers = record { loaded = record { table = None; only = refl; fits = (omega arith, tt) }; jobs = tt }

@@ -79,7 +79,7 @@ module _ {Query Answer : Type 0} (cube : CubeSemantics Query Answer) (honest : T
       omega (arith, count_append (is_end_of test job attempt) turns (Claims k number ∷ StepEnds k number o ∷ []), last)
 
   -- the step that is claimed next
-  task_now : (turns later : List (Turn Query)) (call : Call) (s : Submitted) → job_of (world cube workers turns) call.job ≡ Some s → call.task ≡ next_task cube (world cube workers turns) s
+  task_now : (turns later : List (Turn Query)) (call : Call) (s : Submitted) → job_of (world cube workers [] turns) call.job ≡ Some s → call.task ≡ next_task cube (world cube workers [] turns) s
       → IsTaskOf cube workers (turns ++ Claims call.job call.attempt ∷ later) call
   task_now turns later call s there task = record { before = turns; later = later; claimed = refl; job = s; there = there; task = task }
 
@@ -91,7 +91,7 @@ module _ {Query Answer : Type 0} (cube : CubeSemantics Query Answer) (honest : T
     call_counts job attempt = count_append (is_call_of job attempt) calls (call ∷ []) ∙ omega arith
 
     -- a step from its claim to its end, with its call
-    pub calls-step : (s : Submitted) → (honest → (job_of (world cube workers turns) call.job ≡ Some s) × (call.task ≡ next_task cube (world cube workers turns) s))
+    pub calls-step : (s : Submitted) → (honest → (job_of (world cube workers [] turns) call.job ≡ Some s) × (call.task ≡ next_task cube (world cube workers [] turns) s))
         → AreCallsOf cube honest workers (turns ++ step_turns) (calls ++ call ∷ [])
     calls-step s task = record {
       at_most = λ job attempt. omega (

@@ -117,11 +117,11 @@ pub record IsIdle (w : World Ask) : Type 0 where
 
 -- the entries of the turns of a board
 abbrev pub entries_in : List Line → BoardModel → List Entry
-entries_in script board = entries_along served script (start board.workers (length fixed.tables)) [] (turns board)
+entries_in script board = entries_along served script (start board.workers (length fixed.tables) []) [] (turns board)
 
 -- the attempts that its commands found in flight
 abbrev pub stops_in : BoardModel → List Request
-stops_in board = stops_along fixed (start board.workers (length fixed.tables)) (turns board)
+stops_in board = stops_along fixed (start board.workers (length fixed.tables) []) (turns board)
 
 -- the board's turns are those of its events over the inputs, their commands are the first ones of the script, and none of them found an
 -- attempt in flight

@@ -33,7 +33,7 @@ IsOverNone w (QueryEnds line NoAnswer) = ⊤
 
 -- hands are honest, or no query was answered over a set that holds a segment
 abbrev pub AreTrusted : Type 0 → ℕ → List (Turn Ask) → Type 0
-AreTrusted honest workers turns = honest ⊎ Along fixed IsOverNone (start workers (length fixed.tables)) turns
+AreTrusted honest workers turns = honest ⊎ Along fixed IsOverNone (start workers (length fixed.tables) []) turns
 
 -- ---- ends
 

@@ -1,5 +1,5 @@
 -- How the outcomes of steps follow from what the hand did: the faults that attempts meet, where it tells them, and its calls.
-use Rattle.std.specs.Prelude.{◌≡◌, ◌⊎◌, ◌≤◌, ◌==◌, ◌&&◌, ⊤, ℕ, Bool, true, false, List, ◌∷◌, ◌++◌, All, Contains, Option, Some, None, count_by}
+use Rattle.std.specs.Prelude.{◌≡◌, ◌⊎◌, ◌≤◌, ◌==◌, ◌&&◌, ⊤, ℕ, Bool, true, false, List, [], ◌∷◌, ◌++◌, All, Contains, Option, Some, None, count_by}
 use Rattle.fixed_state.specs.Ends.{outcome_of}
 use Rattle.outside.specs.Hands.{Call, Fail, fault_for}
 use Rattle.outside.specs.declared.hand.HandFault.{HandFault}
@@ -88,8 +88,8 @@ pub record IsTaskOf {Query Answer : Type 0} (cube : CubeSemantics Query Answer) 
   pub later : List (Turn Query)
   pub claimed : turns ≡ before ++ Claims call.job call.attempt ∷ later
   pub job : Submitted
-  pub there : job_of (world cube workers before) call.job ≡ Some job
-  pub task : call.task ≡ next_task cube (world cube workers before) job
+  pub there : job_of (world cube workers [] before) call.job ≡ Some job
+  pub task : call.task ≡ next_task cube (world cube workers [] before) job
 
 -- these are the calls of the ends of steps: one at most for each, and one where its outcome isn't Memory; where hands are honest, each with
 -- the task of its step

@@ -49,7 +49,7 @@ module _ {Query : Type 0} where
 
   -- those of a history
   abbrev pub stops_of : Served Query → Inputs → List Event → List Request
-  stops_of served inputs history = stops_along served.cube (start inputs.workers (length served.cube.tables)) (turns_of served inputs history)
+  stops_of served inputs history = stops_along served.cube (start inputs.workers (length served.cube.tables) []) (turns_of served inputs history)
 
 -- where a stopper tells its requests, the new ones are among these, and no two of them are equal
 abbrev pub AsksAmong : List Request → Option (List Request) → Option (List Request) → Type 0

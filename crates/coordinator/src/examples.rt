@@ -36,6 +36,6 @@ pub fn worked_calls()
 
 /// The attempts that commands found in flight.
 pub fn worked_stops()
-    ensures found { stops_along small (start 2 1) steered ≡ request_of 1 1 ∷ request_of 2 1 ∷ [] }
+    ensures found { stops_along small (start 2 1 []) steered ≡ request_of 1 1 ∷ request_of 2 1 ∷ [] }
     ensures none { stops_of served inputs history ≡ [] }
 {}

@@ -29,7 +29,7 @@ use Rattle.run_history.specs.declared.event.Outcome.TheVariants as outcome
 use Rattle.run_history.specs.declared.refused.Refused.{Refused}
 use Rattle.job_board.proofs.Rest.{all_rest}
 use Rattle.run_history.proofs.Flights.{claims_world}
-use Rattle.run_history.proofs.Sound.{sound_world}
+use Rattle.run_history.proofs.Sound.{empty_starts, sound_world}
 use Rattle.run_history.proofs.Laws.{job_at-added, job_at-added_other, job_at-with_job, job_at-with_other}
 use Rattle.run_transcript.specs.Runs.{lines_taken, turns_of, world_of}
 use Rattle.cubes_top.specs.Rests.{IsAtEnd, WholeRunsRest, IsThereBy, Last, claimed_by, moved_by, last_after, last_along, last_by, steered_by, ended_by}
@@ -291,16 +291,16 @@ has_steps : HasSteps fixed
 has_steps kind = omega arith
 
 -- each job of a run after which nothing is left to do
-pub settled-rests : (workers : ℕ) (turns : List (Turn Ask)) → IsLegal fixed workers turns → is_settled (world fixed workers turns) ≡ true → (n : ℕ) (s : Submitted)
-    → job_of (world fixed workers turns) n ≡ Some s → IsAtEnd s.job.state (last_along (start workers (length fixed.tables)) turns n None)
+pub settled-rests : (workers : ℕ) (turns : List (Turn Ask)) → IsLegal fixed workers [] turns → is_settled (world fixed workers [] turns) ≡ true → (n : ℕ) (s : Submitted)
+    → job_of (world fixed workers [] turns) n ≡ Some s → IsAtEnd s.job.state (last_along (start workers (length fixed.tables) []) turns n None)
 settled-rests workers turns legal settled n s e =
-    let w = world fixed workers turns in
+    let w = world fixed workers [] turns in
     let last = and_parts (is_empty w.queue && is_empty w.steps && is_empty w.waiting) (is_empty w.asked) settled in
     let third = and_parts (is_empty w.queue && is_empty w.steps) (is_empty w.waiting) last.0 in
     let second = and_parts (is_empty w.queue) (is_empty w.steps) third.0 in
-    let rest = all_rest w (sound_world fixed has_steps workers turns legal) (claims_world fixed has_steps workers turns legal) (nothing_left w.queue second.0) (nothing_left w.steps second.1) in
-    at_end s.job.state (last_along (start workers (length fixed.tables)) turns n None)
-    (rests-along (start workers (length fixed.tables)) turns n None (no_jobs n None) s e) (at_rest w.jobs n s rest e)
+    let rest = all_rest w (sound_world fixed has_steps workers [] turns empty_starts legal) (claims_world fixed has_steps workers [] turns empty_starts legal) (nothing_left w.queue second.0) (nothing_left w.steps second.1) in
+    at_end s.job.state (last_along (start workers (length fixed.tables) []) turns n None)
+    (rests-along (start workers (length fixed.tables) []) turns n None (no_jobs n None) s e) (at_rest w.jobs n s rest e)
 
 pub whole-rests : WholeRunsRest
 whole-rests inputs history whole n s e =

@@ -84,4 +84,4 @@ IsAtEnd now last =
 abbrev pub WholeRunsRest : Type 0
 WholeRunsRest =
     (inputs : Inputs) (history : List Event) → IsWhole served inputs history → (n : ℕ) (s : Submitted) → job_of (world_of served inputs history) n ≡ Some s
-    → IsAtEnd s.job.state (last_along (start inputs.workers (length fixed.tables)) (turns_of served inputs history) n None)
+    → IsAtEnd s.job.state (last_along (start inputs.workers (length fixed.tables) []) (turns_of served inputs history) n None)

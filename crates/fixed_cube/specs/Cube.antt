@@ -56,7 +56,7 @@ abbrev pub fixed : CubeSemantics Ask AnswerTable
 fixed = record {
   tables = codes "F" ∷ [];
   steps = λ kind. 3;
-  task = λ kind parts done. job_task (snapshot_of parts) done;
+  task = λ kind range parts done. job_task (snapshot_of parts) done;
   product = product_of;
   is_product = is_product;
   rows = rows_of;

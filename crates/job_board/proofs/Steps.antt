@@ -27,7 +27,7 @@ use Rattle.run_history.specs.declared.refused.Refused.{Refused}
 use Rattle.run_history.proofs.Flights.{claims_world}
 use Rattle.run_history.proofs.Growth.{small_world}
 use Rattle.run_history.proofs.Laws.{Along-push, world-push}
-use Rattle.run_history.proofs.Sound.{sound_world}
+use Rattle.run_history.proofs.Sound.{empty_starts, sound_world}
 use Rattle.run_state.specs.Answers.{named}
 use Rattle.run_state.specs.Orders.{IsOrderly, data_of, products_of}
 
@@ -63,7 +63,7 @@ module _ (honest : Type 0) (workers room : ℕ) (names : List (List ℕ)) (s : F
   so_far = turns_of log.turns.items
 
   abbrev pub world_now : World Query
-  world_now = world fixed workers so_far
+  world_now = world fixed workers [] so_far
 
   -- one turn more
   pub board_step : (turn : BoardTurn) (s' : FixedState) (log' : Log) → 0 < room → IsBoard honest workers room names s log → IsRecorded log turn log'
@@ -71,13 +71,13 @@ module _ (honest : Type 0) (workers room : ℕ) (names : List (List ℕ)) (s : F
       → AreKept honest (step fixed world_now (turn_of turn)) (products_of s') (data_of s') → IsBoard honest workers 0 names s' log'
   board_step turn s' log' h b r allowed fresh stands orderly kept =
       let same = turns_added log turn log' r in
-      let e : world fixed workers (turns_of log'.turns.items) ≡ step fixed world_now (turn_of turn) = ap (world fixed workers) same ∙ world-push fixed workers so_far (turn_of turn) in
+      let e : world fixed workers [] (turns_of log'.turns.items) ≡ step fixed world_now (turn_of turn) = ap (world fixed workers []) same ∙ world-push fixed workers [] so_far (turn_of turn) in
       record {
         state = subst (λ (w : World Query). StandsFor w s') (sym e) stands;
         orderly = orderly;
         kept = subst (λ (w : World Query). AreKept honest w (products_of s') (data_of s')) (sym e) kept;
-        legal = subst (IsLegal fixed workers) (sym same) (Along-push fixed Allowed (start workers 1) so_far (turn_of turn) b.legal allowed);
-        fresh = subst (HasFreshAnswers fixed workers) (sym same) (Along-push fixed IsFresh (start workers 1) so_far (turn_of turn) b.fresh fresh);
+        legal = subst (IsLegal fixed workers []) (sym same) (Along-push fixed Allowed (start workers 1 []) so_far (turn_of turn) b.legal allowed);
+        fresh = subst (HasFreshAnswers fixed workers []) (sym same) (Along-push fixed IsFresh (start workers 1 []) so_far (turn_of turn) b.fresh fresh);
         log = log_push room log turn log' h b.log r;
         names = b.names;
       }
@@ -86,26 +86,26 @@ module _ (honest : Type 0) (workers room : ℕ) (names : List (List ℕ)) (s : F
   pub board_again : (room' : ℕ) (s' : FixedState) (log' : Log) → IsBoard honest workers room names s log → log'.turns.items ≡ log.turns.items → IsLog room' log' → StandsFor world_now s' → IsOrderly s'
       → products_of s' ≡ products_of s → data_of s' ≡ data_of s → IsBoard honest workers room' names s' log'
   board_again room' s' log' b same l stands orderly products cells =
-      let e : world fixed workers (turns_of log'.turns.items) ≡ world_now = ap (λ (turns : List BoardTurn). world fixed workers (turns_of turns)) same in
+      let e : world fixed workers [] (turns_of log'.turns.items) ≡ world_now = ap (λ (turns : List BoardTurn). world fixed workers [] (turns_of turns)) same in
       record {
         state = subst (λ (w : World Query). StandsFor w s') (sym e) stands;
         orderly = orderly;
         kept = subst (λ (w : World Query). AreKept honest w (products_of s') (data_of s')) (sym e) (rw (products, cells) b.kept);
-        legal = subst (λ (turns : List BoardTurn). IsLegal fixed workers (turns_of turns)) (sym same) b.legal;
-        fresh = subst (λ (turns : List BoardTurn). HasFreshAnswers fixed workers (turns_of turns)) (sym same) b.fresh;
+        legal = subst (λ (turns : List BoardTurn). IsLegal fixed workers [] (turns_of turns)) (sym same) b.legal;
+        fresh = subst (λ (turns : List BoardTurn). HasFreshAnswers fixed workers [] (turns_of turns)) (sym same) b.fresh;
         log = l;
         names = b.names;
       }
 
   module _ (b : IsBoard honest workers room names s log) where
     pub sound_now : IsSound fixed world_now
-    sound_now = sound_world fixed has_steps workers so_far b.legal
+    sound_now = sound_world fixed has_steps workers [] so_far empty_starts b.legal
 
     pub claims_now : AreClaims world_now.jobs world_now.steps
-    claims_now = claims_world fixed has_steps workers so_far b.legal
+    claims_now = claims_world fixed has_steps workers [] so_far empty_starts b.legal
 
     pub small_now : AreAtMost (vec_len log.turns) world_now
-    small_now = let n : length log.turns.items ≡ vec_len log.turns = omega (arith, log.turns.ok.0) in subst (λ (n : ℕ). AreAtMost n world_now) (length-map log.turns.items turn_of ∙ n) (small_world fixed workers so_far)
+    small_now = let n : length log.turns.items ≡ vec_len log.turns = omega (arith, log.turns.ok.0) in subst (λ (n : ℕ). AreAtMost n world_now) (length-map log.turns.items turn_of ∙ n) (small_world fixed workers [] so_far)
 
     pub fixed_now : IsFixedState honest s
     fixed_now = record { w = world_now; stands = b.state; sound = sound_now; kept = b.kept; orderly = b.orderly }

@@ -31,7 +31,7 @@ turns ledger = turns_of ledger.log
 
 -- the world that they give
 abbrev pub now : BoardModel → World Ask
-now ledger = world fixed ledger.workers (turns ledger)
+now ledger = world fixed ledger.workers [] (turns ledger)
 
 -- one turn more
 pub record IsAdded (old : BoardModel) (turn : Turn Ask) (new : BoardModel) : Type 0 where

@@ -11,11 +11,11 @@ waits line session = record { line = line; session = session; query = by_first; 
 
 -- two queries of session 4 and one of session 9
 abbrev pub three_waiting : World Ask
-three_waiting = record (start 2 1) { waiting = waits 1 4 ∷ waits 2 4 ∷ waits 3 9 ∷ [] }
+three_waiting = record (start 2 1 []) { waiting = waits 1 4 ∷ waits 2 4 ∷ waits 3 9 ∷ [] }
 
 -- the first of them in flight
 abbrev pub first_in_flight : World Ask
-first_in_flight = record (start 2 1) { waiting = waits 2 4 ∷ waits 3 9 ∷ []; asked = record { waiting = waits 1 4; at_take = 0 } ∷ [] }
+first_in_flight = record (start 2 1 []) { waiting = waits 2 4 ∷ waits 3 9 ∷ []; asked = record { waiting = waits 1 4; at_take = 0 } ∷ [] }
 
 -- job 1 in flight under attempt 2, so many of its three steps done
 abbrev pub second_attempt : ℕ → Submitted

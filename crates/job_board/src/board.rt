@@ -464,8 +464,8 @@ impl<H: Honest> Board<H> {
     /// The events so far. They are a legal history, and its answers are fresh.
     pub fn history(&self) -> &[Event]
         ensures history { result.now ≡ map event_of (turns self.now) }
-        ensures legal { IsLegal fixed self.now.workers (turns self.now) }
-        ensures fresh { HasFreshAnswers fixed self.now.workers (turns self.now) }
+        ensures legal { IsLegal fixed self.now.workers [] (turns self.now) }
+        ensures fresh { HasFreshAnswers fixed self.now.workers [] (turns self.now) }
         ensures sound { IsSound fixed (now self.now) }
     {
         &self.log.history
@@ -474,8 +474,8 @@ impl<H: Honest> Board<H> {
     /// The events so far, of a board that is done with.
     pub fn into_history(self) -> Vec<Event>
         ensures history { result.items ≡ map event_of (turns self) }
-        ensures legal { IsLegal fixed self.workers (turns self) }
-        ensures fresh { HasFreshAnswers fixed self.workers (turns self) }
+        ensures legal { IsLegal fixed self.workers [] (turns self) }
+        ensures fresh { HasFreshAnswers fixed self.workers [] (turns self) }
     {
         let log = self.log;
         log.history

@@ -85,6 +85,9 @@ pub fn put_refused<W: Write>(out: &mut W, refused: &Refused) -> io::Result<()> {
         Refused::NoSuchJob(job) => write!(out, "; NoSuchJob {job}"),
         Refused::JobEnded(state) => write!(out, "; JobEnded {state}"),
         Refused::WrongState(state) => write!(out, "; WrongState {state}"),
+        Refused::NoSuchTable(name) => put_named(out, "NoSuchTable", name.bytes()),
+        Refused::Sql(fault) => write!(out, "; Sql {} {}", fault.kind.as_str(), fault.place),
+        Refused::Bind(fault) => write!(out, "; Bind {} {}", fault.kind.as_str(), fault.place),
     }
 }
 

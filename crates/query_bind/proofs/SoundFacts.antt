@@ -39,8 +39,8 @@ use Rattle.query_names.specs.Uses.{not_dimensions, row_not_dimension, group_not_
 use Rattle.query_names.specs.Joins.{joins_missing, joins_not_in_model}
 use Rattle.query_names.specs.Types.{type_clashes, type_clash, fits_type}
 use Rattle.query_names.specs.Faults.{fault_at, fault_from, fault_of, fault_of_names, fault_of_model, fault_of_types}
-use Rattle.query_names.specs.declared.kind.BindKind.{BindKind}
-use Rattle.query_names.specs.declared.kind.BindKind.TheVariants as kind
+use Rattle.query_faults.specs.declared.bind.BindKind.{BindKind}
+use Rattle.query_faults.specs.declared.bind.BindKind.TheVariants as kind
 use Rattle.query_bind.specs.Asks.{agg_of, given_agg, with_agg, aggs_of, column_number, agg_number, bound_term, bound_kind, bound_lit, bound_or_true, bound_item, bound_key, ask_of, same_agg}
 use Rattle.query_bind.proofs.AggLemmas.{some_gathered}
 use Rattle.query_bind.proofs.CondLemmas.{at_true, terms_hold, pairs_hold}

@@ -5,7 +5,7 @@ ghost use Rattle.cube_desc.specs.Sound as cubes;
 ghost use Rattle.plain_answer.specs.Asks.{IsSound};
 ghost use Rattle.query_names.specs.Faults.{fault_of};
 ghost use Rattle.query_names.specs.Resolve.{dimension_count};
-ghost use Rattle.query_names.specs.declared.kind.BindFault.{BindFault};
+ghost use Rattle.query_faults.specs.declared.bind.BindFault.{BindFault};
 ghost use Rattle.query_bind.specs.Asks.{ask_of};
 ghost use Rattle.query_bind.specs.Bounds.{IsBound, IsWithinRowkey};
 

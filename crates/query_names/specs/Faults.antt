@@ -3,9 +3,9 @@ use Rattle.std.specs.Prelude.{ℕ, List, Option, Some, None}
 use Rattle.std.specs.Option.{option_or}
 use Rattle.cube_desc.specs.Cube.{Cube}
 use Rattle.sql_reader.specs.declared.tree.Query.{Query}
-use Rattle.query_names.specs.declared.kind.BindFault.{BindFault}
-use Rattle.query_names.specs.declared.kind.BindKind.{BindKind}
-use Rattle.query_names.specs.declared.kind.BindKind.TheVariants as kind
+use Rattle.query_faults.specs.declared.bind.BindFault.{BindFault}
+use Rattle.query_faults.specs.declared.bind.BindKind.{BindKind}
+use Rattle.query_faults.specs.declared.bind.BindKind.TheVariants as kind
 use Rattle.query_names.specs.Least.{least}
 use Rattle.query_names.specs.Names.{no_tables, no_columns}
 use Rattle.query_names.specs.Uses.{not_dimensions, no_measures, not_grouped_terms}

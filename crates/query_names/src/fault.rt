@@ -5,11 +5,11 @@ ghost use Rattle.std.specs.Option.{option_or};
 ghost use Rattle.query_names.specs.Faults.{fault_from, fault_at, fault_of_names, fault_of_model, fault_of_types, fault_of};
 
 use crate::joins::{join_missing_place, join_not_in_model_place};
-use crate::kind::{BindFault, BindKind};
 use crate::names::{no_column_place, no_table_place};
 use crate::scope::Scope;
 use crate::types::type_clash_place;
 use crate::uses::{no_measure_place, not_dimension_place, not_grouped_place};
+use query_faults::{BindFault, BindKind};
 
 fn fault_from(kind: BindKind, place: Option<u32>) -> Option<BindFault>
     ensures { result ≡ fault_from kind place }

@@ -11,19 +11,18 @@
 //!   puts them in order.
 //! - It takes no memory: a check goes over the query and keeps one place.
 //!
-//! The modules: `kind` (the kinds of fault), `scope` (what names stand for), `check` (checks of the parts of a query), `names`, `uses`,
+//! The modules: `scope` (what names stand for), `check` (checks of the parts of a query), `names`, `uses`,
 //! `joins`, `types` (the checks), `fault` (their order).
 #![tactic(auto)]
 
 mod check;
 mod fault;
 mod joins;
-mod kind;
 mod names;
 mod scope;
 mod types;
 mod uses;
 
 pub use fault::first_fault;
-pub use kind::{BindFault, BindKind};
+pub use query_faults::{BindFault, BindKind};
 pub use scope::{Scope, key_term};

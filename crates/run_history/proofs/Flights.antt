@@ -10,7 +10,8 @@ use Rattle.run_history.specs.Commands.Command.{Load, Submit, Drop, Steer, Ask, N
 use Rattle.run_history.specs.Commands.Turn.{Takes, Claims, StepEnds, QueryTakes, QueryEnds}
 use Rattle.run_history.specs.Cubes.{CubeSemantics}
 use Rattle.run_history.specs.Histories.{Along, Allowed, IsNextAttempt, claim_count}
-use Rattle.run_history.specs.Invariants.{HasSteps, IsSound, AreClaims, claims_of}
+use Rattle.run_history.specs.Invariants.{HasSteps, IsStart, IsSound, AreClaims, claims_of}
+use Rattle.run_history.specs.Sets.{ReadySet}
 use Rattle.run_history.specs.Steps.{step, world, with_job, end_by, without_claim, steered, accepted, claimed, ended_as, step_ended, query_taken, query_ended, by_verdict, steps_of}
 use Rattle.run_history.specs.Verdicts.{act_of, verdict}
 use Rattle.run_history.specs.World.{Submitted, Waiting, Asked, World, start, job_at, job_of, in_force}
@@ -235,9 +236,9 @@ module _ {Query Answer : Type 0} (cube : CubeSemantics Query Answer) where
   no_jobs zero = refl
   no_jobs (suc n) = refl
 
-  pub claims_world : HasSteps cube → (workers : ℕ) (turns : List (Turn Query)) → Along cube Allowed (start workers (length cube.tables)) turns
-      → AreClaims (world cube workers turns).jobs (world cube workers turns).steps
-  claims_world steps workers turns legal =
-      let both = reached cube (λ w. IsSound cube w × HasClaims w) (λ w turn a i. (keeps_sound cube steps w turn a i.0, keeps_claims w turn a i.0 i.1)) (start workers (length cube.tables)) turns
-      (sound_start cube workers (length cube.tables), record { each_once = λ n attempt. omega arith; in_flight = λ n s e flight. (let none = no_jobs n in cc) }) legal in
+  pub claims_world : HasSteps cube → (workers : ℕ) (initial : ReadySet) (turns : List (Turn Query)) → IsStart initial → Along cube Allowed (start workers (length cube.tables) initial) turns
+      → AreClaims (world cube workers initial turns).jobs (world cube workers initial turns).steps
+  claims_world steps workers initial turns from legal =
+      let both = reached cube (λ w. IsSound cube w × HasClaims w) (λ w turn a i. (keeps_sound cube steps w turn a i.0, keeps_claims w turn a i.0 i.1)) (start workers (length cube.tables) initial) turns
+      (sound_start cube workers (length cube.tables) initial from, record { each_once = λ n attempt. omega arith; in_flight = λ n s e flight. (let none = no_jobs n in cc) }) legal in
       both.1

@@ -11,6 +11,7 @@ use Rattle.run_history.specs.Commands.{Command, Turn}
 use Rattle.run_history.specs.Commands.Command.{Load, Submit, Drop, Steer, Ask, Note}
 use Rattle.run_history.specs.Commands.Turn.{Takes, Claims, StepEnds, QueryTakes, QueryEnds}
 use Rattle.run_history.specs.Cubes.{CubeSemantics}
+use Rattle.run_history.specs.Sets.{ReadySet}
 use Rattle.run_history.specs.Steps.{accepted, by_verdict, claimed, end_by, ended_as, query_ended, query_taken, step, step_ended, steered, steps_of, with_job, without_claim}
 use Rattle.run_history.specs.Verdicts.{act_of, verdict}
 use Rattle.run_history.specs.World.{Asked, Submitted, Waiting, World, job_at, job_of, start}
@@ -149,8 +150,8 @@ module _ {Query Answer : Type 0} (cube : CubeSemantics Query Answer) where
   no_job zero s e = cc
   no_job (suc n) s e = cc
 
-  pub small_world : (workers : ℕ) (turns : List (Turn Query)) → AreAtMost (length turns) (fold (step cube) (start workers (length cube.tables)) turns)
-  small_world workers turns =
+  pub small_world : (workers : ℕ) (initial : ReadySet) (turns : List (Turn Query)) → AreAtMost (length turns) (fold (step cube) (start workers (length cube.tables) initial) turns)
+  small_world workers initial turns =
       let same : 0 + length turns ≡ length turns = omega arith in
-      subst (λ (n : ℕ). AreAtMost n (fold (step cube) (start workers (length cube.tables)) turns)) same
-      (grown 0 (start workers (length cube.tables)) turns (record { jobs = omega arith; attempts = no_job; versions = omega arith; accepted = omega arith }))
+      subst (λ (n : ℕ). AreAtMost n (fold (step cube) (start workers (length cube.tables) initial) turns)) same
+      (grown 0 (start workers (length cube.tables) initial) turns (record { jobs = omega arith; attempts = no_job; versions = omega arith; accepted = omega arith }))

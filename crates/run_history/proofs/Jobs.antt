@@ -1,5 +1,5 @@
 -- What the acts of the job table keep of a job.
-use Rattle.std.proofs.Common.{◌≡◌, ◌≢◌, ℕ, ◌+◌, ◌≤◌, ◌<◌, ◌⊎◌, Bool, true, false, ◌&&◌, ◌==◌, if◌then◌else◌, Option, Some, None, refl, ap, inl, inr, arith}
+use Rattle.std.proofs.Common.{◌≡◌, ◌≢◌, ℕ, ◌+◌, ◌≤◌, ◌<◌, ◌⊎◌, Bool, true, false, ◌&&◌, ◌==◌, if◌then◌else◌, Option, Some, None, refl, sym, ap, ◌∙◌, inl, inr, arith}
 use Rattle.std.proofs.lemmas.Bool.{and_parts, and_from, eqb-true, eq-eqb}
 use Rattle.job_machine.specs.Job.{Act, JobRecord, IsJob, state_after, moved_or_same, next, new_job, waits_in, is_claimable, is_running, is_current, is_last_step}
 use Rattle.job_machine.specs.Job.Act.{Claim, Advance, Finish, Fail, Pause, Resume, Discard}
@@ -9,7 +9,7 @@ use Rattle.job_machine.specs.declared.state.JobState.{JobState}
 use Rattle.job_machine.specs.declared.state.JobState.TheVariants.{Pending, Running, Error, Stopped, Discarded, Finished}
 use Rattle.run_history.specs.Steps.{end_by}
 use Rattle.run_history.specs.Verdicts.{act_of, steer_by}
-use Rattle.run_history.specs.World.{is_live}
+use Rattle.run_history.specs.World.{is_finished, is_live}
 use Rattle.run_history.specs.declared.command.Control.{Control}
 use Rattle.run_history.specs.declared.command.Control.TheVariants as control
 use Rattle.run_history.specs.declared.event.Outcome.{Outcome}
@@ -303,3 +303,46 @@ finish_lands job e = ap (λ (state : JobState). (moved_or_same Finish (state_aft
 
 pub fail_lands : (job : JobRecord) → job.state ≡ Running → (next Fail job).in_flight ≡ false
 fail_lands job e = ap (λ (state : JobState). (moved_or_same Fail (state_after Fail state) job).in_flight) e
+
+-- ---- jobs that are over
+
+-- no act moves a job that isn't live
+pub over_stays : (act : Act) (before : JobState) (job : JobRecord) → is_live before ≡ false → moved_or_same act (state_after act before) job ≡ job
+over_stays Claim Discarded job e = refl
+over_stays Claim Finished job e = refl
+over_stays Advance Discarded job e = refl
+over_stays Advance Finished job e = refl
+over_stays Finish Discarded job e = refl
+over_stays Finish Finished job e = refl
+over_stays Fail Discarded job e = refl
+over_stays Fail Finished job e = refl
+over_stays Pause Discarded job e = refl
+over_stays Pause Finished job e = refl
+over_stays Resume Discarded job e = refl
+over_stays Resume Finished job e = refl
+over_stays Discard Discarded job e = refl
+over_stays Discard Finished job e = refl
+over_stays act Pending job e = cc
+over_stays act Running job e = cc
+over_stays act Error job e = cc
+over_stays act Stopped job e = cc
+
+-- so a job is live only where it was
+pub live_next : (act : Act) (job : JobRecord) → is_live (next act job).state ≡ true → is_live job.state ≡ true
+live_next act job h = by (is_live job.state) refl
+  where
+    by : (b : Bool) → is_live job.state ≡ b → is_live job.state ≡ true
+    by true e = e
+    by false e = ap (λ (j : JobRecord). is_live j.state) (sym (over_stays act job.state job e)) ∙ h
+
+finished_over : (state : JobState) → is_finished state ≡ true → is_live state ≡ false
+finished_over Finished h = refl
+finished_over Pending h = cc
+finished_over Running h = cc
+finished_over Error h = cc
+finished_over Stopped h = cc
+finished_over Discarded h = cc
+
+-- and stays FINISHED
+pub finished_next : (act : Act) (job : JobRecord) → is_finished job.state ≡ true → is_finished (next act job).state ≡ true
+finished_next act job h = ap (λ (j : JobRecord). is_finished j.state) (over_stays act job.state job (finished_over job.state h)) ∙ h

@@ -29,7 +29,7 @@ use Rattle.run_history.specs.declared.refused.Refused.TheVariants as refused
 use Rattle.run_history.proofs.Lists.{cond_at_false, map_none}
 use Rattle.run_history.proofs.Ready.{from_apart}
 use Rattle.run_history.proofs.Laws.{slice_get-front, job_at-with_job, job_at-with_other, job_at-added_other, job_at-next}
-use Rattle.run_history.proofs.Jobs.{same_job, IsSameStep, step_next, attempts_next, Counts, current_counts, by_finished, finish_ends, running_live}
+use Rattle.run_history.proofs.Jobs.{same_job, IsSameStep, step_next, attempts_next, live_next, Counts, current_counts, by_finished, finish_ends, running_live}
 use Rattle.run_history.proofs.InPlace.{inside_dropped, inside_swapped, first_none}
 use Rattle.run_history.proofs.Sound.{free_of_jobs, keeps_sound}
 
@@ -41,10 +41,11 @@ record Moves (s t : Submitted) : Type 0 where
   range : t.range ≡ s.range
   tables : (first : List Rows) → s.tables ≡ Some first → t.tables ≡ Some first
   attempts : s.job.attempt ≤ t.job.attempt
+  live : is_live t.job.state ≡ true → is_live s.job.state ≡ true
   step : (attempt : ℕ) → attempt ≤ s.job.attempt → is_current t.job attempt ≡ true → IsSameStep s.job t.job attempt
 
 moves_same : (s : Submitted) → Moves s s
-moves_same s = record { kind = refl; range = refl; tables = λ first e. e; attempts = omega arith; step = λ attempt le h. record { current = h; done = refl } }
+moves_same s = record { kind = refl; range = refl; tables = λ first e. e; attempts = omega arith; live = λ h. h; step = λ attempt le h. record { current = h; done = refl } }
 
 moves_next : (act : Act) (s : Submitted) (tables : Option (List Rows)) → ((first : List Rows) → s.tables ≡ Some first → tables ≡ Some first) → Moves s (record s { job = next act s.job; tables = tables })
 moves_next act s tables kept = record {
@@ -52,6 +53,7 @@ moves_next act s tables kept = record {
   range = refl;
   tables = kept;
   attempts = attempts_next act s.job;
+  live = λ h. live_next act s.job h;
   step = λ attempt le h. step_next act s.job attempt le h;
 }
 
@@ -93,9 +95,16 @@ module _ {Query : Type 0} where
   parts_kept Merge old new s t first es et er e =
       ap (λ (r : Interval). map (λ (part : Segment). part.origin) (inside r new.ready)) er ∙ ap (λ (l : ReadySet). map (λ (part : Segment). part.origin) l) e
 
-  -- where an attempt counts, before and after, the segments inside the job's range are the same
+  -- a MERGE's parts are those of the segments inside its range, whatever its tables
+  merge_kept : (old new : World Query) (s t : Submitted) → t.job.kind ≡ s.job.kind → s.job.kind ≡ Merge → t.range ≡ s.range → inside s.range new.ready ≡ inside s.range old.ready
+      → parts_of new t ≡ parts_of old s
+  merge_kept old new s t kind merge range e =
+      ap (λ (k : JobKind). parts_by k new t) (kind ∙ merge) ∙ ap (λ (r : Interval). map (λ (part : Segment). part.origin) (inside r new.ready)) range
+      ∙ ap (λ (l : ReadySet). map (λ (part : Segment). part.origin) l) e ∙ sym (ap (λ (k : JobKind). parts_by k old s) merge)
+
+  -- where a job is live, before and after, the segments inside its range are the same
   abbrev AreInside : World Query → World Query → Type 0
-  AreInside old new = (n attempt : ℕ) (s t : Submitted) → job_of old n ≡ Some s → job_of new n ≡ Some t → is_current s.job attempt ≡ true → is_current t.job attempt ≡ true
+  AreInside old new = (n : ℕ) (s t : Submitted) → job_of old n ≡ Some s → job_of new n ≡ Some t → is_live s.job.state ≡ true → is_live t.job.state ≡ true
       → inside s.range new.ready ≡ inside s.range old.ready
 
   abbrev HaveTables : World Query → Type 0
@@ -116,6 +125,8 @@ module _ {Query : Type 0} where
               range = f.range;
               tables = f.tables;
               attempts = f.attempts;
+              live = f.live;
+              parts = λ merge alive. merge_kept old new s t f.kind merge f.range (inner n s t e m.1.0 (f.live alive) alive);
               work = λ attempt le h. (
                   let same = f.step attempt le h in
                   let counts = current_counts s.job attempt same.current in
@@ -123,7 +134,7 @@ module _ {Query : Type 0} where
                   record {
                     current = same.current;
                     done = same.done;
-                    parts = ap (λ (k : JobKind). parts_by k new t) f.kind ∙ parts_kept s.job.kind old new s t first.0 first.1 (f.tables first.0 first.1) f.range (inner n attempt s t e m.1.0 same.current h);
+                    parts = ap (λ (k : JobKind). parts_by k new t) f.kind ∙ parts_kept s.job.kind old new s t first.0 first.1 (f.tables first.0 first.1) f.range (inner n s t e m.1.0 (running_live s.job.state counts.running) (running_live t.job.state (current_counts t.job attempt h).running));
                   }
                   );
             },
@@ -137,7 +148,7 @@ module _ {Query : Type 0} where
   -- the ready sets stay
   kept_sets : (old new : World Query) → AreMoved old.jobs new.jobs → HaveTables old → new.past ≡ old.past → new.ready ≡ old.ready → IsKept old new
   kept_sets old new moved tables past ready =
-      kept_by old new moved (λ n attempt s t e g c d. ap (λ (l : ReadySet). inside s.range l) ready) tables (omega (arith, ap (λ (l : List ReadySet). length l) past))
+      kept_by old new moved (λ n s t e g c d. ap (λ (l : ReadySet). inside s.range l) ready) tables (omega (arith, ap (λ (l : List ReadySet). length l) past))
       (λ version le. ap (λ (l : List ReadySet). unwrap_or (slice_get (l ++ new.ready ∷ []) version) []) past ∙ ap (λ (x : ReadySet). unwrap_or (slice_get (old.past ++ x ∷ []) version) []) ready)
 
   -- or one is added
@@ -165,6 +176,8 @@ module _ {Query : Type 0} where
               range = g.range ∙ f.range;
               tables = λ first t. g.tables first (f.tables first t);
               attempts = omega (arith, f.attempts, g.attempts);
+              live = λ alive. f.live (g.live alive);
+              parts = λ merge alive. g.parts (f.kind ∙ merge) alive ∙ f.parts merge (g.live alive);
               work = λ attempt le current. (
                   let later = g.work attempt (omega (arith, f.attempts)) current in
                   let first = f.work attempt le later.current in
@@ -183,8 +196,8 @@ module _ {Query : Type 0} where
       → next_task cube new t ≡ next_task cube old s
   task_kept cube old new s t attempt h le current =
       let same = h.work attempt le current in
-      ap (λ (k : JobKind). cube.task k (parts_of new t) t.job.done) h.kind ∙ ap (λ (parts : List (List Snapshot)). cube.task s.job.kind parts t.job.done) same.parts
-      ∙ ap (λ (n : ℕ). cube.task s.job.kind (parts_of old s) n) same.done
+      ap (λ (k : JobKind). cube.task k t.range (parts_of new t) t.job.done) h.kind ∙ ap (λ (r : Interval). cube.task s.job.kind r (parts_of new t) t.job.done) h.range
+      ∙ ap (λ (parts : List (List Snapshot)). cube.task s.job.kind s.range parts t.job.done) same.parts ∙ ap (λ (n : ℕ). cube.task s.job.kind s.range (parts_of old s) n) same.done
 
 module _ {Query Answer : Type 0} (cube : CubeSemantics Query Answer) where
   sound_tables : (w : World Query) → IsSound cube w → HaveTables w
@@ -201,7 +214,7 @@ module _ {Query Answer : Type 0} (cube : CubeSemantics Query Answer) where
       let b = first_none (overlaps_job cube r w) [] a.1 in
       let free = free_of_jobs cube r w.jobs (map_none (λ (s : Submitted). refused.OverlapsJob s.job.id) (find (λ s. is_live s.job.state && is_overlap s.range r) w.jobs) b.0) in
       kept_added w (with_set (record w { line = line }) (dropped r w.ready)) (moved_same w.jobs)
-      (λ n attempt s t e g c d. inside_dropped s.range r w.ready (free n s e (running_live s.job.state (current_counts s.job attempt c).running)) (from_apart w.ready i.ready_apart)) (sound_tables w i) refl
+      (λ n s t e g c d. inside_dropped s.range r w.ready (free n s e c) (from_apart w.ready i.ready_apart)) (sound_tables w i) refl
 
   kept_accepted : (w : World Query) (line : ℕ) (command : Command Query) → verdict cube w command ≡ None → IsSound cube w → IsKept w (accepted (steps_of cube command) (record w { line = line }) command)
   kept_accepted w line (Load table rows) e i = kept_sets w (accepted (steps_of cube (Load table rows)) (record w { line = line }) (Load table rows)) (moved_same w.jobs) (sound_tables w i) refl refl
@@ -228,15 +241,14 @@ module _ {Query Answer : Type 0} (cube : CubeSemantics Query Answer) where
       let new : Segment = record { range = s.range; job = n; origin = origin_of (record w { steps = claims }) s } in
       let ends : t.job.state ≡ state.Finished = finish_ends s.job.state s.job counts.running in
       kept_added w (ended_as ended.Finished (record w { steps = claims }) n s) (moved_set w.jobs n s t at (moves_next Act.Finish s s.tables (λ first g. g)))
-      (λ m other u v e g c d. elim (cases_eq m n) [
+      (λ m u v e g c d. elim (cases_eq m n) [
         | inl same ↦
             let is : t ≡ v = some_same t v (sym (subst (λ (k : ℕ). job_at (with_job w.jobs n t) k ≡ Some t) (sym same) (job_at-with_job w.jobs n s t at)) ∙ g) in
-            let running = (current_counts v.job other d).running in
-            let finished : v.job.state ≡ state.Finished = ap (λ (x : Submitted). x.job.state) (sym is) ∙ ends in
+            let over : is_live v.job.state ≡ false = ap (λ (x : Submitted). is_live x.job.state) (sym is) ∙ ap is_live ends in
             cc
         | inr different ↦
             inside_swapped u.range new w.ready (i.numbered m u e).is_range (i.numbered n s at).is_range
-            (i.jobs_apart m n u s different e at (running_live u.job.state (current_counts u.job other c).running) (running_live s.job.state counts.running)) (from_apart w.ready i.ready_apart)
+            (i.jobs_apart m n u s different e at c (running_live s.job.state counts.running)) (from_apart w.ready i.ready_apart)
       ]) (sound_tables w i) refl
 
   kept_ended : (w : World Query) (claims : List (ℕ × ℕ)) (n attempt : ℕ) (out : Outcome) (s : Submitted) (how : Ended) → job_at w.jobs n ≡ Some s → end_by out s.job attempt ≡ how → IsSound cube w
@@ -389,3 +401,11 @@ module _ {Query Answer : Type 0} (cube : CubeSemantics Query Answer) where
   answers_rise w (QueryTakes line) fresh session = rises_taken w line session (find (λ x. x.line == line) w.waiting)
   answers_rise w (QueryEnds line (Answered version)) fresh session = rises_answered w line version session (find (λ x. x.waiting.line == line) w.asked) fresh
   answers_rise w (QueryEnds line NoAnswer) fresh session = rises_no_answer w line session (find (λ x. x.waiting.line == line) w.asked)
+
+  -- the parts of a live MERGE stay
+  pub merge_stays : HasSteps cube → (w : World Query) → IsSound cube w → (turns : List (Turn Query)) → Along cube Allowed w turns → (n : ℕ) (s t : Submitted) → job_of w n ≡ Some s
+      → job_of (fold (step cube) w turns) n ≡ Some t → s.job.kind ≡ Merge → is_live t.job.state ≡ true → parts_of (fold (step cube) w turns) t ≡ parts_of w s
+  merge_stays steps w i turns a n s t e g merge live =
+      let k = (kept_turns cube steps w turns i a).jobs n s e in
+      let is : k.0 ≡ t = some_same k.0 t (sym k.1.0 ∙ g) in
+      (subst (λ (x : Submitted). IsJobKept w (fold (step cube) w turns) s x) is k.1.1).parts merge live

@@ -12,8 +12,8 @@ use Rattle.run_history.specs.World.{Submitted, World, start, number, set_at, job
 -- ---- histories
 
 module _ {Query Answer : Type 0} (cube : CubeSemantics Query Answer) where
-  pub world-push : (workers : ℕ) (turns : List (Turn Query)) (turn : Turn Query) → world cube workers (turns ++ turn ∷ []) ≡ step cube (world cube workers turns) turn
-  world-push workers turns turn = fold-append (step cube) (start workers (length cube.tables)) turns (turn ∷ [])
+  pub world-push : (workers : ℕ) (initial : ReadySet) (turns : List (Turn Query)) (turn : Turn Query) → world cube workers initial (turns ++ turn ∷ []) ≡ step cube (world cube workers initial turns) turn
+  world-push workers initial turns turn = fold-append (step cube) (start workers (length cube.tables) initial) turns (turn ∷ [])
 
   pub Along-push : (P : World Query → Turn Query → Type 0) (w : World Query) (turns : List (Turn Query)) (turn : Turn Query) → Along cube P w turns
       → P (fold (step cube) w turns) turn → Along cube P w (turns ++ turn ∷ [])

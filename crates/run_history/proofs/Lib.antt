@@ -9,3 +9,6 @@ pub mod Flights
 pub mod Queries
 pub mod Refusals
 pub mod Growth
+pub mod FewSnapshots
+pub mod Loads
+pub mod MergedRows

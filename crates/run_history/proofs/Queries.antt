@@ -10,6 +10,7 @@ use Rattle.run_history.specs.Commands.Turn.{Takes, Claims, StepEnds, QueryTakes,
 use Rattle.run_history.specs.Cubes.{CubeSemantics}
 use Rattle.run_history.specs.Histories.{Along, Allowed, IsFresh, IsLawful, IsNextOfSession}
 use Rattle.run_history.specs.Invariants.{AreQueries}
+use Rattle.run_history.specs.Sets.{ReadySet}
 use Rattle.run_history.specs.Steps.{step, world, end_by, without_claim, steered, accepted, claimed, ended_as, step_ended, query_taken, query_ended, answered_as, by_verdict, steps_of}
 use Rattle.run_history.specs.Verdicts.{verdict}
 use Rattle.run_history.specs.World.{Submitted, Waiting, Asked, World, start, number, job_of}
@@ -202,11 +203,11 @@ module _ {Query Answer : Type 0} (cube : CubeSemantics Query Answer) where
   keeps_versions w (QueryTakes line) a h = versions_taken w line (find (λ q. q.line == line) w.waiting) refl a.0.1 h
   keeps_versions w (QueryEnds line out) a h = versions_ended w line out (find (λ q. q.waiting.line == line) w.asked) refl (known_out w line out a.1) h
 
-  pub queries_world : (workers : ℕ) (turns : List (Turn Query)) → Along cube Allowed (start workers (length cube.tables)) turns → Along cube IsFresh (start workers (length cube.tables)) turns → AreQueries (world cube workers turns)
-  queries_world workers turns legal fresh =
-      let w = world cube workers turns in
-      let h : HaveVersions w = reached_along cube (λ w turn. Allowed w turn × IsFresh w turn) HaveVersions keeps_versions (start workers (length cube.tables)) turns
-      (record { last_answers = λ session. omega arith; commands = tt; takes = tt; sessions = tt }) (Along-both cube Allowed IsFresh (start workers (length cube.tables)) turns legal fresh) in
+  pub queries_world : (workers : ℕ) (initial : ReadySet) (turns : List (Turn Query)) → Along cube Allowed (start workers (length cube.tables) initial) turns → Along cube IsFresh (start workers (length cube.tables) initial) turns → AreQueries (world cube workers initial turns)
+  queries_world workers initial turns legal fresh =
+      let w = world cube workers initial turns in
+      let h : HaveVersions w = reached_along cube (λ w turn. Allowed w turn × IsFresh w turn) HaveVersions keeps_versions (start workers (length cube.tables) initial) turns
+      (record { last_answers = λ session. omega arith; commands = tt; takes = tt; sessions = tt }) (Along-both cube Allowed IsFresh (start workers (length cube.tables) initial) turns legal fresh) in
       record {
         last_answers = h.last_answers;
         commands = to_all (λ q. q.at_command ≤ number w) w.waiting h.commands;

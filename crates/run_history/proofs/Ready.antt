@@ -349,6 +349,14 @@ outside_free r set h =
     false_or (is_overlap s.range r) (λ o. let a = k.0 o in let b = not_true (is_inside r s.range) k.1 in cc)
     )) (every_filter (λ s. is_overlap s.range r ≡ true → is_inside r s.range ≡ true) (λ s. not (is_inside r s.range)) set h)
 
+-- of two ranges that don't overlap the one that starts later starts where the other ends, or later
+pub starts_after : (a b : Interval) → IsRange a → IsRange b → is_overlap a b ≡ false → b.start ≤ a.start → b.end ≤ a.start
+starts_after a b ra rb e le =
+    elim (cases_lt a.start b.end) [
+      | inl over ↦ let yes : is_overlap a b ≡ true = and_from (nat_lt a.start b.end) (nat_lt b.start a.end) (lt-ltb a.start b.end over) (lt-ltb b.start a.end (omega arith)) in cc
+      | inr ge ↦ ge
+    ]
+
 pub swapped_apart : (new : Segment) (set : ReadySet) → AreApart set → IsRange new.range → OnlyInside new.range set → AreApart (swapped new set)
 swapped_apart new set h r only =
     let rest : ReadySet = outside new.range set in
@@ -368,11 +376,4 @@ swapped_apart new set h r only =
         elim (cases_lt b.start a.end) [
           | inl over ↦ let yes : is_overlap a b ≡ true = and_from (nat_lt a.start b.end) (nat_lt b.start a.end) (lt-ltb a.start b.end (omega arith)) (lt-ltb b.start a.end over) in cc
           | inr le ↦ le
-        ]
-
-    starts_after : (a b : Interval) → IsRange a → IsRange b → is_overlap a b ≡ false → b.start ≤ a.start → b.end ≤ a.start
-    starts_after a b ra rb e le =
-        elim (cases_lt a.start b.end) [
-          | inl over ↦ let yes : is_overlap a b ≡ true = and_from (nat_lt a.start b.end) (nat_lt b.start a.end) (lt-ltb a.start b.end over) (lt-ltb b.start a.end (omega arith)) in cc
-          | inr ge ↦ ge
         ]

@@ -16,7 +16,7 @@ use Rattle.run_history.specs.Commands.Command.{Load, Submit, Drop, Steer, Ask, N
 use Rattle.run_history.specs.Commands.Turn.{Takes, Claims, StepEnds, QueryTakes, QueryEnds}
 use Rattle.run_history.specs.Cubes.{CubeSemantics}
 use Rattle.run_history.specs.Histories.{Along, Allowed, MayTake}
-use Rattle.run_history.specs.Invariants.{HasSteps, ranges_of, IsInPlace, places_of, IsSubmitted, AreSound, IsSound}
+use Rattle.run_history.specs.Invariants.{HasSteps, IsStart, ranges_of, IsInPlace, places_of, IsSubmitted, AreSound, IsSound}
 use Rattle.run_history.specs.Sets.{Segment, ReadySet, is_same_range, is_overlap, inside, swapped, dropped}
 use Rattle.run_history.specs.Steps.{step, world, with_job, with_set, without, without_claim, steered_queue, end_by, submitted, steered, accepted, claimed, ended_as, step_ended, query_taken, query_ended, by_verdict, steps_of}
 use Rattle.run_history.specs.Verdicts.{first_of, most_segments, act_of, steer_by, steer_refusal, submit_refusals, verdict, no_such_segment, overlaps_job}
@@ -32,6 +32,10 @@ use Rattle.run_history.proofs.Ready.{AreApart, to_apart, from_apart, filter_apar
 use Rattle.run_history.proofs.Laws.{reached, job_at-with_job, job_at-with_other, job_at-added, job_at-next, job_at-added_other}
 use Rattle.run_history.proofs.Jobs.{same_job, job_moves, job_is_new, steer_live, pause_rests, discard_rests, resume_waits, claim_live, claim_rests, current_counts, by_advanced, by_finished, by_failed, advance_waits, fail_rests, finish_ends, flight_rests, running_live, flight_next}
 use Rattle.run_history.proofs.InPlace.{place_dropped, place_swapped, place_inside, place_replaces, length_swapped, found, first_none}
+
+-- a run may start with no segment
+pub empty_starts : IsStart []
+empty_starts = record { apart = to_apart [] tt; few = omega arith }
 
 -- ---- the queue
 
@@ -131,7 +135,7 @@ followed_set jobs n s t at f m u e =
     some_same : (a b : Submitted) → Some a ≡ Some b → a ≡ b
     some_same a b h = cc
 
-count_set : (p : Submitted → Bool) (jobs : List Submitted) (place : ℕ) (s t : Submitted) → slice_get jobs place ≡ Some s
+pub count_set : (p : Submitted → Bool) (jobs : List Submitted) (place : ℕ) (s t : Submitted) → slice_get jobs place ≡ Some s
     → count_by p (set jobs place t) + one_if (p s) ≡ count_by p jobs + one_if (p t)
 count_set p [] place s t e = cc
 count_set p (x ∷ jobs) zero s t e =
@@ -464,16 +468,16 @@ module _ {Query Answer : Type 0} (cube : CubeSemantics Query Answer) where
   no_jobs zero = refl
   no_jobs (suc n) = refl
 
-  pub sound_start : (workers tables : ℕ) → IsSound cube (start workers tables)
-  sound_start workers tables = record {
-    set_apart = λ v. sets_more [] [] (λ k. to_apart [] tt) (to_apart [] tt) v;
-    ready_apart = to_apart [] tt;
+  pub sound_start : (workers tables : ℕ) (initial : ReadySet) → IsStart initial → IsSound cube (start workers tables initial)
+  sound_start workers tables initial from = record {
+    set_apart = λ v. sets_more [] initial (λ k. to_apart [] tt) from.apart v;
+    ready_apart = from.apart;
     numbered = λ n s e. (let none = no_jobs n in cc);
     jobs_apart = λ n m s t other e g live live2. (let none = no_jobs n in cc);
     in_place = λ n s e live. (let none = no_jobs n in cc);
-    room = omega arith;
+    room = omega (arith, from.few);
     queued = λ n. sym (ap places_of (no_jobs n));
   }
 
-  pub sound_world : HasSteps cube → (workers : ℕ) (turns : List (Turn Query)) → Along cube Allowed (start workers (length cube.tables)) turns → IsSound cube (world cube workers turns)
-  sound_world steps workers turns h = reached cube (IsSound cube) (keeps_sound steps) (start workers (length cube.tables)) turns (sound_start workers (length cube.tables)) h
+  pub sound_world : HasSteps cube → (workers : ℕ) (initial : ReadySet) (turns : List (Turn Query)) → IsStart initial → Along cube Allowed (start workers (length cube.tables) initial) turns → IsSound cube (world cube workers initial turns)
+  sound_world steps workers initial turns from h = reached cube (IsSound cube) (keeps_sound steps) (start workers (length cube.tables) initial) turns (sound_start workers (length cube.tables) initial from) h

@@ -14,13 +14,13 @@ pub record Snapshot : Type 0 where
   pub range : Interval
 
 -- a cube, as far as a run goes: the names of its tables, the fact table first; how many steps a kind of job has; the task of the
--- next step of a job of this kind, made of the snapshots of each part, of which so many steps are done; the product of a task; whether
--- bytes are a product of a task; the joined rows of a snapshot; the answer to a query over rows; and the first lookup with a derived
--- column whose rows differ between parts, by its name
+-- next step of a job of this kind and range, made of the snapshots of each part, of which so many steps are done; the product of a task;
+-- whether bytes are a product of a task; the joined rows of a snapshot; the answer to a query over rows; and the first lookup with a
+-- derived column whose rows differ between parts, by its name
 pub record CubeSemantics (Query Answer : Type 0) : Type 0 where
   pub tables : List (List ℕ)
   pub steps : JobKind → ℕ
-  pub task : JobKind → List (List Snapshot) → ℕ → List ℕ
+  pub task : JobKind → Interval → List (List Snapshot) → ℕ → List ℕ
   pub product : List ℕ → List ℕ
   pub is_product : List ℕ → List ℕ → Bool
   pub rows : Snapshot → Rows

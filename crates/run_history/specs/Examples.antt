@@ -9,7 +9,7 @@ use Rattle.run_history.specs.Commands.{Turn}
 use Rattle.run_history.specs.Commands.Command.{Load, Submit, Drop, Steer, Ask, Note}
 use Rattle.run_history.specs.Commands.Turn.{Takes, Claims, StepEnds, QueryTakes, QueryEnds}
 use Rattle.run_history.specs.Cubes.{CubeSemantics, Rows}
-use Rattle.run_history.specs.Sets.{rows_of}
+use Rattle.run_history.specs.Sets.{ReadySet, rows_of}
 use Rattle.run_history.specs.Steps.{world}
 use Rattle.run_history.specs.World.{World, set_at}
 use Rattle.run_history.specs.declared.command.Control.TheVariants.{Pause, Resume, Discard}
@@ -22,7 +22,7 @@ abbrev pub counting : CubeSemantics ℕ ℕ
 counting = record {
   tables = codes "F" ∷ [];
   steps = λ kind. 2;
-  task = λ kind parts done. length parts ∷ done ∷ [];
+  task = λ kind range parts done. length parts ∷ done ∷ [];
   product = λ task. task;
   is_product = λ task bytes. bytes_eq task bytes;
   rows = λ snapshot. rows_in snapshot.tables;
@@ -49,7 +49,7 @@ killed =
     ∷ Takes 7 (Ask 0 0) ∷ QueryTakes 7 ∷ QueryEnds 7 (Answered 1) ∷ []
 
 abbrev pub after_killed : World ℕ
-after_killed = world counting 1 killed
+after_killed = world counting 1 [] killed
 
 -- a job that is discarded while its last step is in flight: the end of that step has no effect
 abbrev pub discarded : List (Turn ℕ)
@@ -58,7 +58,7 @@ discarded =
     ∷ Takes 3 (Steer Discard 1) ∷ StepEnds 1 2 Done ∷ []
 
 abbrev pub after_discarded : World ℕ
-after_discarded = world counting 2 discarded
+after_discarded = world counting 2 [] discarded
 
 -- the rows over which the query is answered
 abbrev pub rows_seen : Rows
@@ -83,21 +83,21 @@ built =
     ∷ Claims 1 1 ∷ Claims 2 1 ∷ StepEnds 2 1 Done ∷ StepEnds 1 1 Done ∷ Claims 2 2 ∷ Claims 1 2 ∷ StepEnds 1 2 Done ∷ StepEnds 2 2 Done ∷ []
 
 abbrev pub after_built : World ℕ
-after_built = world counting 2 built
+after_built = world counting 2 [] built
 
 -- their segments while they are merged
 abbrev pub merging : List (Turn ℕ)
 merging = built ++ Takes 4 (Submit Merge both_months) ∷ Claims 3 1 ∷ StepEnds 3 1 Done ∷ Claims 3 2 ∷ []
 
 abbrev pub while_merging : World ℕ
-while_merging = world counting 2 merging
+while_merging = world counting 2 [] merging
 
 -- and then
 abbrev pub merged : List (Turn ℕ)
 merged = merging ++ StepEnds 3 2 Done ∷ Takes 5 (Submit Build march) ∷ Takes 6 (Drop both_months) ∷ []
 
 abbrev pub after_merged : World ℕ
-after_merged = world counting 2 merged
+after_merged = world counting 2 [] merged
 
 -- a world whose ready segments leave February out
 abbrev pub with_gap : World ℕ
@@ -118,7 +118,14 @@ less_one = resumed ++ Takes 7 (Steer Discard 1) ∷ []
 
 -- a query that is taken after a swap that its command came before
 abbrev pub taken_late : World ℕ
-taken_late = world counting 1 (
+taken_late = world counting 1 [] (
     Takes 1 (Load 0 two_rows) ∷ Takes 2 (Submit Build january) ∷ Claims 1 1 ∷ StepEnds 1 1 Done ∷ Claims 1 2 ∷ Takes 3 (Ask 0 0)
     ∷ StepEnds 1 2 Done ∷ QueryTakes 3 ∷ []
     )
+
+-- a run that starts with January, which is dropped and built
+abbrev pub with_january : ReadySet
+with_january = record { range = january; job = 7; origin = record { tables = two_rows ∷ []; range = january } ∷ [] } ∷ []
+
+abbrev pub after_dropped : World ℕ
+after_dropped = world counting 1 with_january (Takes 1 (Load 0 two_rows) ∷ Takes 2 (Drop january) ∷ Takes 3 (Submit Build january) ∷ [])

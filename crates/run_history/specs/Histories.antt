@@ -6,6 +6,7 @@ use Rattle.run_history.specs.Commands.{Command, Turn}
 use Rattle.run_history.specs.Commands.Command.{Load, Submit, Drop, Steer, Ask, Note}
 use Rattle.run_history.specs.Commands.Turn.{Takes, Claims, StepEnds, QueryTakes, QueryEnds}
 use Rattle.run_history.specs.Cubes.{CubeSemantics}
+use Rattle.run_history.specs.Sets.{ReadySet}
 use Rattle.run_history.specs.Steps.{step}
 use Rattle.run_history.specs.World.{Asked, Submitted, Waiting, World, busy, is_under_way, job_of, number, start}
 use Rattle.run_history.specs.declared.command.Noted.{Noted}
@@ -85,12 +86,12 @@ module _ {Query : Type 0} where
   IsFresh w (QueryEnds line (Answered version)) = IsLawful w (find (λ q. q.waiting.line == line) w.asked) version
   IsFresh w (QueryEnds line NoAnswer) = ⊤
 
--- a history from the start: every turn may come; and every answer's version is lawful
-abbrev pub IsLegal : {Query Answer : Type 0} → CubeSemantics Query Answer → ℕ → List (Turn Query) → Type 0
-IsLegal cube workers turns = Along cube Allowed (start workers (length cube.tables)) turns
+-- a history from the start with this ready set: every turn may come; and every answer's version is lawful
+abbrev pub IsLegal : {Query Answer : Type 0} → CubeSemantics Query Answer → ℕ → ReadySet → List (Turn Query) → Type 0
+IsLegal cube workers initial turns = Along cube Allowed (start workers (length cube.tables) initial) turns
 
-abbrev pub HasFreshAnswers : {Query Answer : Type 0} → CubeSemantics Query Answer → ℕ → List (Turn Query) → Type 0
-HasFreshAnswers cube workers turns = Along cube IsFresh (start workers (length cube.tables)) turns
+abbrev pub HasFreshAnswers : {Query Answer : Type 0} → CubeSemantics Query Answer → ℕ → ReadySet → List (Turn Query) → Type 0
+HasFreshAnswers cube workers initial turns = Along cube IsFresh (start workers (length cube.tables) initial) turns
 
 abbrev pub is_empty : {A : Type 0} → List A → Bool
 is_empty [] = true

@@ -19,6 +19,11 @@ HasSteps cube = (kind : JobKind) → 0 < cube.steps kind
 abbrev pub ranges_of : ReadySet → List Interval
 ranges_of set = map (λ s. s.range) set
 
+-- a run may start with this ready set: its ranges are apart, and there are no more segments than there may be
+pub record IsStart (initial : ReadySet) : Type 0 where
+  pub apart : IsApart (ranges_of initial)
+  pub few : length initial ≤ most_segments
+
 -- the segments inside a range fill it end to end, are two at least, and have the same lookups
 pub record CanMerge {Query Answer : Type 0} (cube : CubeSemantics Query Answer) (r : Interval) (set : ReadySet) : Type 0 where
   pub filled : EndToEnd r.start r.end (ranges_of (inside r set))

@@ -4,7 +4,8 @@ use Rattle.job_machine.specs.Job.{is_current}
 use Rattle.run_history.specs.Commands.{Turn}
 use Rattle.run_history.specs.Commands.Turn.{Takes, Claims, StepEnds, QueryTakes, QueryEnds}
 use Rattle.run_history.specs.Cubes.{Rows}
-use Rattle.run_history.specs.World.{Submitted, World, job_of, number, parts_of, set_at}
+use Rattle.job_machine.specs.declared.state.JobKind.TheVariants.{Merge}
+use Rattle.run_history.specs.World.{Submitted, World, is_live, job_of, number, parts_of, set_at}
 
 -- the ready sets are as they were
 pub record SameSets {Query : Type 0} (old new : World Query) : Type 0 where
@@ -17,13 +18,15 @@ pub record IsSameWork {Query : Type 0} (old new : World Query) (s t : Submitted)
   pub done : t.job.done ≡ s.job.done
   pub parts : parts_of new t ≡ parts_of old s
 
--- a job, later on: its kind and range stay, and so do the tables of its first claim; its attempts never fall; and while one of the
--- attempts that it had counts, its work stays
+-- a job, later on: its kind and range stay, and so do the tables of its first claim; its attempts never fall; it is live only where it
+-- was; the parts of a live MERGE stay, also while it is at rest; and while one of the attempts that it had counts, its work stays
 pub record IsJobKept {Query : Type 0} (old new : World Query) (s t : Submitted) : Type 0 where
   pub kind : t.job.kind ≡ s.job.kind
   pub range : t.range ≡ s.range
   pub tables : (first : List Rows) → s.tables ≡ Some first → t.tables ≡ Some first
   pub attempts : s.job.attempt ≤ t.job.attempt
+  pub live : is_live t.job.state ≡ true → is_live s.job.state ≡ true
+  pub parts : s.job.kind ≡ Merge → is_live t.job.state ≡ true → parts_of new t ≡ parts_of old s
   pub work : (attempt : ℕ) → attempt ≤ s.job.attempt → is_current t.job attempt ≡ true → IsSameWork old new s t attempt
 
 -- every job is kept, versions never fall, and old ready sets stay

@@ -7,5 +7,6 @@ pub mod Steps
 pub mod Histories
 pub mod Invariants
 pub mod Kept
+pub mod Snapshots
 pub mod Examples
 pub mod Bounds

@@ -1,5 +1,5 @@
 -- Segments, and the ready sets that swaps and drops make.
-use Rattle.std.specs.Prelude.{ℕ, Bool, ◌&&◌, ◌==◌, not, nat_lt, nat_le, List, ◌∷◌, ◌++◌, filter}
+use Rattle.std.specs.Prelude.{ℕ, Bool, ◌&&◌, ◌==◌, not, nat_lt, nat_le, List, ◌∷◌, ◌++◌, filter, length, sum_by}
 use Rattle.std.specs.List.{flat_map}
 use Rattle.range_list.specs.Ranges.{Interval}
 use Rattle.run_history.specs.Cubes.{CubeSemantics, Rows, Snapshot}
@@ -43,6 +43,10 @@ swapped new set = placed new (outside new.range set)
 -- the next set of a drop: the segment of exactly this range goes
 abbrev pub dropped : Interval → ReadySet → ReadySet
 dropped range set = filter (λ s. not (is_same_range range s.range)) set
+
+-- how many snapshots the segments of a set are made of
+abbrev pub snapshots_in : ReadySet → ℕ
+snapshots_in set = sum_by (λ s. length s.origin) set
 
 -- the joined rows of a set: those of each snapshot, end to end
 abbrev pub rows_of : {Query Answer : Type 0} → CubeSemantics Query Answer → ReadySet → Rows

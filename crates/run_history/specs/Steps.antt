@@ -142,6 +142,6 @@ step cube w (StepEnds job attempt outcome) =
 step cube w (QueryTakes line) = query_taken w line (find (λ q. q.line == line) w.waiting)
 step cube w (QueryEnds line out) = query_ended w line out (find (λ q. q.waiting.line == line) w.asked)
 
--- the world after some turns
-abbrev pub world : {Query Answer : Type 0} → CubeSemantics Query Answer → ℕ → List (Turn Query) → World Query
-world cube workers turns = fold (step cube) (start workers (length cube.tables)) turns
+-- the world after some turns from this ready set on
+abbrev pub world : {Query Answer : Type 0} → CubeSemantics Query Answer → ℕ → ReadySet → List (Turn Query) → World Query
+world cube workers initial turns = fold (step cube) (start workers (length cube.tables) initial) turns

@@ -50,9 +50,9 @@ abbrev pub nothing_loaded : ℕ → List (Option Rows)
 nothing_loaded zero = []
 nothing_loaded (suc tables) = None ∷ nothing_loaded tables
 
--- before the first event
-abbrev pub start : {Query : Type 0} → ℕ → ℕ → World Query
-start workers tables = record {
+-- before the first event, with the ready set of number 0
+abbrev pub start : {Query : Type 0} → ℕ → ℕ → ReadySet → World Query
+start workers tables initial = record {
   workers = workers;
   line = 0;
   loaded = nothing_loaded tables;
@@ -60,7 +60,7 @@ start workers tables = record {
   queue = [];
   steps = [];
   past = [];
-  ready = [];
+  ready = initial;
   waiting = [];
   asked = [];
   accepted = 0;
@@ -109,7 +109,7 @@ module _ {Query : Type 0} where
 
 -- the task of a job's next step
 abbrev pub next_task : {Query Answer : Type 0} → CubeSemantics Query Answer → World Query → Submitted → List ℕ
-next_task cube w s = cube.task s.job.kind (parts_of w s) s.job.done
+next_task cube w s = cube.task s.job.kind s.range (parts_of w s) s.job.done
 
 -- a job that is PENDING or RUNNING; a live one; and one that is FINISHED
 abbrev pub is_under_way : JobState → Bool
@@ -126,9 +126,26 @@ abbrev pub is_build : JobKind → Bool
 is_build Build = true
 is_build _ = false
 
+abbrev pub is_finished : JobState → Bool
+is_finished Finished = true
+is_finished _ = false
+
+-- a job of this kind reads tables: a BUILD and a REFRESH do, a MERGE doesn't
+abbrev pub reads_tables : JobKind → Bool
+reads_tables Build = true
+reads_tables Refresh = true
+reads_tables Merge = false
+
 -- how many jobs are in a state that passes the test
 abbrev pub count_in : (JobState → Bool) → List Submitted → ℕ
 count_in test jobs = count_by (λ s. test s.job.state) jobs
 
 abbrev pub live_builds : List Submitted → ℕ
 live_builds jobs = count_by (λ s. is_live s.job.state && is_build s.job.kind) jobs
+
+-- how many jobs read tables, and how many of these are FINISHED
+abbrev pub reading_jobs : List Submitted → ℕ
+reading_jobs jobs = count_by (λ s. reads_tables s.job.kind) jobs
+
+abbrev pub finished_readings : List Submitted → ℕ
+finished_readings jobs = count_by (λ s. reads_tables s.job.kind && is_finished s.job.state) jobs

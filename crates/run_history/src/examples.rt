@@ -1,17 +1,18 @@
 // Histories of a small cube, computed from the definitions.
 
 ghost use Rattle.std.specs.Prelude.{◌≡◌, true, [], ◌∷◌, ◌++◌, codes, map, option_map, Some, None};
-ghost use Rattle.run_history.specs.Examples.{after_built, after_discarded, after_killed, after_merged, both_months, counting, discarded, february, january, killed, less_one, march, merged, paused, resumed, rows_seen, taken_late, three_months, two_rows, waiting, while_merging, with_gap};
+ghost use Rattle.run_history.specs.Examples.{after_built, after_discarded, after_dropped, after_killed, after_merged, both_months, counting, discarded, february, january, killed, less_one, march, merged, paused, resumed, rows_seen, taken_late, three_months, two_rows, waiting, while_merging, with_gap, with_january};
 ghost use Rattle.run_history.specs.Commands.{Command};
-ghost use Rattle.run_history.specs.Commands.Command.{Drop, Note, Steer, Submit};
+ghost use Rattle.run_history.specs.Commands.Command.{Drop, Load, Note, Steer, Submit};
 ghost use Rattle.run_history.specs.Commands.Turn.{Claims, QueryEnds, Takes};
 ghost use Rattle.run_history.specs.declared.command.Noted.TheVariants.{AwaitJob};
 ghost use Rattle.run_history.specs.declared.event.QueryOut.TheVariants.{Answered};
 ghost use Rattle.run_history.specs.Steps.{world};
 ghost use Rattle.run_history.specs.Histories.{Along, Allowed, IsFresh, is_settled};
-ghost use Rattle.run_history.specs.Sets.{rows_of};
+ghost use Rattle.run_history.specs.Sets.{rows_of, snapshots_in};
+ghost use Rattle.run_history.specs.Snapshots.{loads_of, tables_of};
 ghost use Rattle.run_history.specs.Verdicts.{verdict};
-ghost use Rattle.run_history.specs.World.{busy, job_of, next_task, number, set_at, start};
+ghost use Rattle.run_history.specs.World.{busy, finished_readings, job_of, next_task, number, reading_jobs, set_at, start};
 ghost use Rattle.job_machine.specs.declared.state.JobKind.TheVariants.{Build, Merge, Refresh};
 ghost use Rattle.job_machine.specs.declared.state.JobState.TheVariants.{Discarded, Finished, Running};
 ghost use Rattle.run_history.specs.declared.command.Control.TheVariants.{Discard, Pause, Resume};
@@ -20,14 +21,14 @@ ghost use Rattle.run_history.specs.declared.refused.Refused.TheVariants.{Hole, J
 /// A build whose second attempt is killed and that is resumed, with a query over its segment; and a job that is discarded
 /// in flight.
 pub fn worked_examples()
-    ensures allowed { Along counting Allowed (start 1 1) killed }
-    ensures fresh { Along counting IsFresh (start 1 1) killed }
+    ensures allowed { Along counting Allowed (start 1 1 []) killed }
+    ensures fresh { Along counting IsFresh (start 1 1 []) killed }
     ensures settled { is_settled after_killed ≡ true }
     ensures finished { map (λ s. s.job.state) after_killed.jobs ≡ Finished ∷ [] }
     ensures attempts { map (λ s. s.job.attempt) after_killed.jobs ≡ 3 ∷ [] }
     ensures one_swap { number after_killed ≡ 1 }
     ensures rows { rows_seen ≡ two_rows }
-    ensures discarded_allowed { Along counting Allowed (start 2 1) discarded }
+    ensures discarded_allowed { Along counting Allowed (start 2 1 []) discarded }
     ensures discarded_state { map (λ s. s.job.state) after_discarded.jobs ≡ Discarded ∷ [] }
     ensures no_swap { number after_discarded ≡ 0 }
     ensures overlaps { verdict counting after_killed (Submit Build january) ≡ Some (OverlapsSegment january) }
@@ -39,7 +40,7 @@ pub fn worked_examples()
 
 /// Two builds whose segments are merged, and what is refused before, meanwhile and after.
 pub fn worked_merge()
-    ensures allowed { Along counting Allowed (start 2 1) merged }
+    ensures allowed { Along counting Allowed (start 2 1 []) merged }
     ensures built { map (λ s. s.range) after_built.ready ≡ january ∷ february ∷ [] }
     ensures by_jobs { map (λ s. s.job) after_built.ready ≡ 2 ∷ 1 ∷ [] }
     ensures merged { map (λ s. s.range) (set_at after_merged 3) ≡ both_months ∷ [] }
@@ -67,15 +68,29 @@ pub fn worked_merge()
 
 /// The order of the queue, what may not come, and refusals before anything is loaded.
 pub fn worked_queue()
-    ensures in_order { (world counting 1 waiting).queue ≡ 1 ∷ 2 ∷ 3 ∷ [] }
-    ensures paused { (world counting 1 paused).queue ≡ 1 ∷ 3 ∷ [] }
-    ensures resumed_last { (world counting 1 resumed).queue ≡ 1 ∷ 3 ∷ 2 ∷ [] }
-    ensures discarded { (world counting 1 less_one).queue ≡ 3 ∷ 2 ∷ [] }
-    ensures only_the_first { Allowed (world counting 1 paused) (Claims 3 1) → ⊥ }
-    ensures no_worker { Allowed (world counting 1 (waiting ++ Claims 1 1 ∷ [])) (Claims 2 1) → ⊥ }
+    ensures in_order { (world counting 1 [] waiting).queue ≡ 1 ∷ 2 ∷ 3 ∷ [] }
+    ensures paused { (world counting 1 [] paused).queue ≡ 1 ∷ 3 ∷ [] }
+    ensures resumed_last { (world counting 1 [] resumed).queue ≡ 1 ∷ 3 ∷ 2 ∷ [] }
+    ensures discarded { (world counting 1 [] less_one).queue ≡ 3 ∷ 2 ∷ [] }
+    ensures only_the_first { Allowed (world counting 1 [] paused) (Claims 3 1) → ⊥ }
+    ensures no_worker { Allowed (world counting 1 [] (waiting ++ Claims 1 1 ∷ [])) (Claims 2 1) → ⊥ }
     ensures await_running { Allowed while_merging (Takes 5 (Note (AwaitJob 3))) → ⊥ }
     ensures late { IsFresh taken_late (QueryEnds 3 (Answered 1)) }
     ensures too_old { IsFresh taken_late (QueryEnds 3 (Answered 0)) → ⊥ }
-    ensures not_loaded { verdict counting (start 1 1) (Submit Build january) ≡ Some (NotLoaded (codes "F")) }
-    ensures not_loaded_first { verdict counting (start 1 1) (Submit Refresh january) ≡ Some (NotLoaded (codes "F")) }
+    ensures not_loaded { verdict counting (start 1 1 []) (Submit Build january) ≡ Some (NotLoaded (codes "F")) }
+    ensures not_loaded_first { verdict counting (start 1 1 []) (Submit Refresh january) ≡ Some (NotLoaded (codes "F")) }
+{}
+
+/// A set that a run starts with, the snapshots of sets, and the loads that tables come from.
+pub fn worked_snapshots()
+    ensures first { set_at after_dropped 0 ≡ with_january }
+    ensures second { set_at after_dropped 1 ≡ [] }
+    ensures accepted { map (λ s. s.job.id) after_dropped.jobs ≡ 1 ∷ [] }
+    ensures overlaps { verdict counting (world counting 1 with_january (Takes 1 (Load 0 two_rows) ∷ [])) (Submit Build january) ≡ Some (OverlapsSegment january) }
+    ensures start_snapshots { snapshots_in with_january ≡ 1 }
+    ensures merged_snapshots { snapshots_in (set_at after_merged 3) ≡ 2 }
+    ensures readings { reading_jobs after_merged.jobs ≡ 3 }
+    ensures finished { finished_readings after_merged.jobs ≡ 2 }
+    ensures loads { loads_of 0 merged ≡ two_rows ∷ [] }
+    ensures tables { option_map (tables_of after_merged) (job_of after_merged 4) ≡ Some (two_rows ∷ []) }
 {}

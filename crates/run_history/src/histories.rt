@@ -1,8 +1,10 @@
 // What holds over every legal history.
 
 ghost use Rattle.std.specs.Prelude.{◌≡◌, ◌≤◌, ◌↔◌, ◌+◌, ◌==◌, ℕ, true, false, All, List, find, fold, length, Some};
+ghost use Rattle.std.specs.List.{list_any};
 ghost use Rattle.job_machine.specs.Job.{is_current};
 ghost use Rattle.job_machine.specs.declared.state.JobKind.{JobKind};
+ghost use Rattle.job_machine.specs.declared.state.JobKind.TheVariants.{Build, Merge, Refresh};
 ghost use Rattle.job_machine.specs.declared.state.JobState.TheVariants.{Discarded};
 ghost use Rattle.range_list.specs.Ranges.{Interval, IsApart};
 ghost use Rattle.run_history.specs.Commands.{Command, Turn};
@@ -10,10 +12,10 @@ ghost use Rattle.run_history.specs.Commands.Command.{Ask, Load, Note, Steer, Sub
 ghost use Rattle.run_history.specs.Commands.Turn.{Claims, QueryEnds, QueryTakes, StepEnds, Takes};
 ghost use Rattle.run_history.specs.Cubes.{CubeSemantics, Rows};
 ghost use Rattle.run_history.specs.Histories.{Along, Allowed, HasFreshAnswers, IsFresh, IsLawful, IsLegal};
-ghost use Rattle.run_history.specs.Invariants.{AreClaims, AreQueries, HasSteps, IsLeastOverlap, IsSound, ranges_of};
+ghost use Rattle.run_history.specs.Invariants.{AreClaims, AreQueries, CanMerge, HasSteps, IsLeastOverlap, IsSound, IsStart, ranges_of};
 ghost use Rattle.run_history.specs.Kept.{IsJobKept, IsKept, SameSets, ends_query};
 ghost use Rattle.run_history.specs.Steps.{step, world};
-ghost use Rattle.run_history.specs.Verdicts.{most_segments, overlaps_job, too_many_segments, verdict};
+ghost use Rattle.run_history.specs.Verdicts.{is_ready, most_segments, overlaps_job, too_many_segments, verdict};
 ghost use Rattle.run_history.specs.World.{Asked, Submitted, World, is_live, job_of, live_builds, next_task, set_at};
 ghost use Rattle.run_history.specs.declared.command.Control.{Control};
 ghost use Rattle.run_history.specs.declared.command.Noted.{Noted};
@@ -21,20 +23,21 @@ ghost use Rattle.run_history.specs.declared.event.Outcome.{Outcome};
 ghost use Rattle.run_history.specs.declared.event.QueryOut.{QueryOut};
 ghost use Rattle.run_history.specs.declared.refused.Refused.{Refused};
 ghost use Rattle.run_history.specs.declared.refused.Refused.TheVariants.{OverlapsJob, TooManySegments};
-ghost use Rattle.run_history.specs.Sets.{is_inside, is_overlap};
+ghost use Rattle.run_history.specs.Sets.{ReadySet, is_inside, is_overlap};
 
-/// The jobs, the queue and the ready sets keep their invariant over every legal history, and so do the claims without their end.
+/// The jobs, the queue and the ready sets keep their invariant over every legal history that starts with a set that is apart and has no
+/// more segments than there may be, and so do the claims without their end.
 pub fn sound_histories<Query, Answer>()
-    ensures claims { (cube : CubeSemantics Query Answer) → HasSteps cube → (workers : ℕ) (turns : List (Turn Query)) → IsLegal cube workers turns
-        → AreClaims (world cube workers turns).jobs (world cube workers turns).steps }
-    ensures sound { (cube : CubeSemantics Query Answer) → HasSteps cube → (workers : ℕ) (turns : List (Turn Query))
-        → IsLegal cube workers turns → IsSound cube (world cube workers turns) }
+    ensures claims { (cube : CubeSemantics Query Answer) → HasSteps cube → (workers : ℕ) (initial : ReadySet) (turns : List (Turn Query)) → IsStart initial → IsLegal cube workers initial turns
+        → AreClaims (world cube workers initial turns).jobs (world cube workers initial turns).steps }
+    ensures sound { (cube : CubeSemantics Query Answer) → HasSteps cube → (workers : ℕ) (initial : ReadySet) (turns : List (Turn Query)) → IsStart initial
+        → IsLegal cube workers initial turns → IsSound cube (world cube workers initial turns) }
 {}
 
 /// Every ready set of every legal history is apart.
 pub fn sets_apart<Query, Answer>()
-    ensures { (cube : CubeSemantics Query Answer) → HasSteps cube → (workers : ℕ) (turns : List (Turn Query)) → IsLegal cube workers turns
-        → (version : ℕ) → IsApart (ranges_of (set_at (world cube workers turns) version)) }
+    ensures { (cube : CubeSemantics Query Answer) → HasSteps cube → (workers : ℕ) (initial : ReadySet) (turns : List (Turn Query)) → IsStart initial → IsLegal cube workers initial turns
+        → (version : ℕ) → IsApart (ranges_of (set_at (world cube workers initial turns) version)) }
 {}
 
 /// The end of an attempt that isn't current, a command on a job, a claim, and every event of a job that is DISCARDED leave the
@@ -77,8 +80,8 @@ pub fn turns_keep<Query, Answer>()
 /// Over every legal and fresh history no version is beyond the last one, and the version at which a query in flight was taken is lawful
 /// at its end.
 pub fn versions_are_lawful<Query, Answer>()
-    ensures queries { (cube : CubeSemantics Query Answer) (workers : ℕ) (turns : List (Turn Query)) → IsLegal cube workers turns
-        → HasFreshAnswers cube workers turns → AreQueries (world cube workers turns) }
+    ensures queries { (cube : CubeSemantics Query Answer) (workers : ℕ) (initial : ReadySet) (turns : List (Turn Query)) → IsLegal cube workers initial turns
+        → HasFreshAnswers cube workers initial turns → AreQueries (world cube workers initial turns) }
     ensures at_take { (w : World Query) → AreQueries w → (line : ℕ) (q : Asked Query) → find (λ other. other.waiting.line == line) w.asked ≡ Some q
         → IsLawful w (Some q) q.at_take }
 {}
@@ -93,4 +96,15 @@ pub fn refusals_are_exact<Query, Answer>()
         → overlaps_job cube range w ≡ Some (OverlapsJob job) → IsLeastOverlap w range job }
     ensures swap { (cube : CubeSemantics Query Answer) (w : World Query) → IsSound cube w → (job : ℕ) (s : Submitted) → job_of w job ≡ Some s
         → is_live s.job.state ≡ true → All (λ other. is_overlap other.range s.range ≡ true → is_inside s.range other.range ≡ true) w.ready }
+{}
+
+/// In a world that a legal history reaches a live BUILD's range overlaps no ready segment, a live REFRESH's is that of one, and that of a
+/// live MERGE is filled end to end by two at least, whose lookups don't differ.
+pub fn live_jobs_are_in_place<Query, Answer>()
+    ensures build { (cube : CubeSemantics Query Answer) (w : World Query) → IsSound cube w → (job : ℕ) (s : Submitted) → job_of w job ≡ Some s
+        → is_live s.job.state ≡ true → s.job.kind ≡ Build → list_any (λ other. is_overlap other.range s.range) w.ready ≡ false }
+    ensures refresh { (cube : CubeSemantics Query Answer) (w : World Query) → IsSound cube w → (job : ℕ) (s : Submitted) → job_of w job ≡ Some s
+        → is_live s.job.state ≡ true → s.job.kind ≡ Refresh → is_ready s.range w.ready ≡ true }
+    ensures merge { (cube : CubeSemantics Query Answer) (w : World Query) → IsSound cube w → (job : ℕ) (s : Submitted) → job_of w job ≡ Some s
+        → is_live s.job.state ≡ true → s.job.kind ≡ Merge → CanMerge cube s.range w.ready }
 {}

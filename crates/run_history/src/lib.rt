@@ -12,13 +12,15 @@ mod event;
 mod examples;
 mod histories;
 mod refused;
+mod snapshots;
 
 pub use bounds::numbers_are_small;
 pub use command::{Control, Noted};
 pub use event::{Event, Outcome, QueryOut};
-pub use examples::{worked_examples, worked_merge, worked_queue};
+pub use examples::{worked_examples, worked_merge, worked_queue, worked_snapshots};
 pub use histories::{
-    refused_changes_nothing, sets_apart, sets_stay, sound_histories, turns_keep,
-    versions_are_lawful,
+    live_jobs_are_in_place, refused_changes_nothing, sets_apart, sets_stay, sound_histories,
+    turns_keep, versions_are_lawful,
 };
 pub use refused::Refused;
+pub use snapshots::{few_snapshots, loaded_stays, merges_keep_rows, parts_stay};

@@ -3,6 +3,7 @@
 use calendar::Day;
 use cube_val::NameText;
 use job_machine::JobState;
+use query_faults::{BindFault, SqlFault};
 use range_list::Range;
 
 /// Why a command was refused. A refused command is an event and changes nothing else.
@@ -32,4 +33,10 @@ pub enum Refused {
     JobEnded(JobState),
     /// The job is live, in a state that the command has no use for.
     WrongState(JobState),
+    /// The cube has no table of this name.
+    NoSuchTable(NameText),
+    /// The query's text has this fault.
+    Sql(SqlFault),
+    /// The cube can't answer the query, for this fault.
+    Bind(BindFault),
 }

@@ -5,5 +5,7 @@ pub mod Ends
 pub mod Refusals
 pub mod Turns
 pub mod Builds
+pub mod Coverings
+pub mod Ranges
 pub mod Steers
 pub mod SoundStates

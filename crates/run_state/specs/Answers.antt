@@ -1,18 +1,18 @@
 -- What commands are answered.
-use Rattle.std.specs.Prelude.{ℕ, ⊤, Bool, true, false, List, [], Option, Some, None, Result, Ok, Err}
+use Rattle.std.specs.Prelude.{ℕ, ⊤, Bool, true, false, not, List, [], ◌∷◌, option_map, Option, Some, None, Result, Ok, Err}
 use Rattle.job_machine.specs.Job.{JobRecord, attempt_in_flight, state_after}
 use Rattle.job_machine.specs.declared.state.JobState.{JobState}
 use Rattle.job_machine.specs.declared.state.JobRefusal.{JobRefusal}
 use Rattle.job_machine.specs.declared.state.JobRefusal.TheVariants as job
 use Rattle.run_history.specs.Cubes.{CubeSemantics}
-use Rattle.run_history.specs.Verdicts.{act_of, state_refusal}
+use Rattle.run_history.specs.Verdicts.{act_of, first_of, refused_if, state_refusal}
 use Rattle.run_history.specs.World.{Submitted}
 use Rattle.run_history.specs.declared.command.Control.{Control}
 use Rattle.run_history.specs.declared.command.Control.TheVariants.{Pause, Resume, Discard}
 use Rattle.run_history.specs.declared.event.Outcome.{Outcome}
 use Rattle.run_history.specs.declared.event.Outcome.TheVariants.{Done}
 use Rattle.run_history.specs.declared.refused.Refused.{Refused}
-use Rattle.run_history.specs.declared.refused.Refused.TheVariants.{NoSuchJob, JobEnded, WrongState}
+use Rattle.run_history.specs.declared.refused.Refused.TheVariants.{Hole, JobEnded, NoSuchJob, NotOnBounds, OneSegment, WrongState}
 use Rattle.run_state.specs.declared.parts.Controlled.{Controlled}
 
 -- the attempt that a command on a job stops
@@ -63,10 +63,15 @@ abbrev pub named : {Q : Type 0} → List (List ℕ) → CubeSemantics Q ⊤
 named names = record {
   tables = names;
   steps = λ kind. 0;
-  task = λ kind parts done. [];
+  task = λ kind range parts done. [];
   product = λ task. [];
   is_product = λ task bytes. false;
   rows = λ snapshot. [];
   answer = λ query rows. tt;
   lookup_that_differs = λ parts. None;
 }
+
+-- what refuses a MERGE of a range by the ready segments alone: whether it is on their bounds, whether one has the range, and the first
+-- day of it that none holds
+abbrev pub of_cover : Bool → Bool → Option ℕ → Option Refused
+of_cover on one day = first_of (refused_if (not on) NotOnBounds ∷ refused_if one OneSegment ∷ option_map Hole day ∷ [])

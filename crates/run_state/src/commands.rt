@@ -38,7 +38,7 @@ pub fn new_state<T: TableHandle, P: Drop, S: Drop, Q: Drop>(
     workers: u32,
     tables: usize,
 ) -> Result<RunState<T, P, S, Q>, AllocError>
-    ensures state { IfOk result (λ state. IsStateOf T.rows (start workers tables) state) }
+    ensures state { IfOk result (λ state. IsStateOf T.rows (start workers tables []) state) }
     ensures orderly { IfOk result IsOrderly }
     ensures products { IfOk result (λ state. products_of state ≡ []) }
     ensures segments { IfOk result (λ state. data_of state ≡ []) }

@@ -27,7 +27,7 @@ mod verdicts;
 
 pub use commands::{control_job, load, new_state, set_line, submit};
 pub use examples::worked_examples;
-pub use laws::sound_states;
+pub use laws::{merges_compare_lookups_last, sound_states};
 pub use parts::{
     Claim, Controlled, JobEntry, QueryInFlight, ReadySegment, RunState, Session, WaitingQuery,
 };
@@ -35,4 +35,4 @@ pub use queries::{ask, end_query, next_query, take_query};
 pub use reads::{is_current, is_last_step, is_settled, may_note, place_of_job};
 pub use steps::{claim, end_advanced, end_failed, end_finished, end_stale};
 pub use table::TableHandle;
-pub use verdicts::build_refusal;
+pub use verdicts::{build_refusal, drop_refusal, merge_refusal, refresh_refusal};

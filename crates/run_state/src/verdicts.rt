@@ -1,12 +1,16 @@
-// What refuses a submission.
+// What refuses submissions and drops.
 
-ghost use Rattle.std.specs.Prelude.{◌≡◌, ◌≤◌, ◌&&◌, ℕ, Some, None, IfOk, IfSome, count_by, find, length, map, option_map, position, is_none};
-ghost use Rattle.job_machine.specs.declared.state.JobKind.TheVariants.{Build};
-ghost use Rattle.run_history.specs.Commands.Command.{Submit};
-ghost use Rattle.run_history.specs.Sets.{is_overlap};
-ghost use Rattle.run_history.specs.Verdicts.{verdict};
+ghost use Rattle.std.specs.Prelude.{◌≡◌, ◌≤◌, ◌&&◌, ℕ, [], Some, None, IfOk, IfSome, count_by, find, length, map, not, option_map, position, is_none};
+ghost use Rattle.std.specs.List.{list_any};
+ghost use Rattle.std.specs.Option.{option_or};
+ghost use Rattle.job_machine.specs.declared.state.JobKind.TheVariants.{Build, Merge, Refresh};
+ghost use Rattle.run_history.specs.Commands.Command.{Submit, Drop as DropRange};
+ghost use Rattle.run_history.specs.Invariants.{ranges_of};
+ghost use Rattle.run_history.specs.Sets.{ReadySet, is_overlap, is_same_range};
+ghost use Rattle.run_history.specs.Verdicts.{first_free_day, is_on_bounds, is_ready, refused_if, verdict};
+ghost use Rattle.run_history.specs.declared.refused.Refused.TheVariants.{NoSuchSegment, OneSegment, OverlapsJob};
 ghost use Rattle.run_history.specs.World.{World, is_build, is_live};
-ghost use Rattle.run_state.specs.Answers.{named};
+ghost use Rattle.run_state.specs.Answers.{named, of_cover};
 ghost use Rattle.run_state.specs.Orders.{IsOrderly};
 ghost use Rattle.run_state.specs.States.{IsStateOf};
 
@@ -14,7 +18,7 @@ use crate::parts::{JobEntry, RunState};
 use crate::table::TableHandle;
 use cube_val::NameText;
 use job_machine::{Job, JobKind, JobState};
-use range_list::{Range, RangeList};
+use range_list::{Cover, Range, RangeList};
 use run_history::Refused;
 use std::alloc::AllocError;
 
@@ -112,4 +116,114 @@ pub fn build_refusal<T: TableHandle, P: Drop, S: Drop, Q: Drop>(
         None => Ok(None),
         Some(job) => Ok(Some(Refused::OverlapsJob(job))),
     }
+}
+
+fn same(a: &Range, b: &Range) -> bool
+    ensures { result ≡ is_same_range a.now b.now }
+{
+    a.start() == b.start() && a.end() == b.end()
+}
+
+// One of the ranges is this one.
+fn has_range(ranges: &RangeList, range: &Range) -> bool
+    ensures { result ≡ list_any (λ other. is_same_range range.now other) ranges.now }
+{
+    for place in 0..ranges.len() {
+        let other = ranges.get(place);
+        if same(range, &other) {
+            return true;
+        }
+    }
+    false
+}
+
+fn missing(ranges: &RangeList, range: &Range) -> Option<Refused>
+    ensures { result ≡ refused_if (not (list_any (λ other. is_same_range range.now other) ranges.now)) NoSuchSegment }
+{
+    if has_range(ranges, range) {
+        return None;
+    }
+    Some(Refused::NoSuchSegment)
+}
+
+// The one refusal, or else the other.
+fn or_refused(first: Option<Refused>, then: Option<Refused>) -> Option<Refused>
+    ensures { result ≡ option_or first then }
+{
+    match first {
+        Some(refused) => Some(refused),
+        None => then,
+    }
+}
+
+fn job_refusal<T, P>(jobs: &[JobEntry<T, P>], range: &Range) -> Option<Refused>
+    ensures { result ≡ option_map OverlapsJob (option_map (λ entry. entry.job.id) (find (λ entry. is_live entry.job.state && is_overlap entry.range range.now) jobs.now)) }
+{
+    overlapping_job(jobs, range).map(Refused::OverlapsJob)
+}
+
+fn one_segment(ranges: &RangeList, range: &Range, then: Option<Refused>) -> Option<Refused>
+    ensures { result ≡ option_or (refused_if (list_any (λ other. is_same_range range.now other) ranges.now) OneSegment) then }
+{
+    if has_range(ranges, range) {
+        return Some(Refused::OneSegment);
+    }
+    then
+}
+
+// What ready segments of these ranges refuse a MERGE by.
+fn cover_refusal(ranges: &RangeList, range: &Range) -> Option<Refused>
+    ensures { (set : ReadySet) → ranges_of set ≡ ranges.now → result ≡ of_cover (is_on_bounds range.now set) (is_ready range.now set) (first_free_day range.now set) }
+{
+    match ranges.covering(range) {
+        Cover::NotOnBounds => Some(Refused::NotOnBounds),
+        Cover::Hole(day) => one_segment(ranges, range, Some(Refused::Hole(day))),
+        Cover::Parts { .. } => one_segment(ranges, range, None),
+    }
+}
+
+/// The first refusal that applies to a REFRESH of a range, where the tables have these names; `None` where it is accepted.
+pub fn refresh_refusal<T: TableHandle, P: Drop, S: Drop, Q: Drop>(
+    state: &RunState<T, P, S, Q>,
+    names: &[NameText],
+    range: &Range,
+) -> Result<Option<Refused>, AllocError>
+    requires orderly { IsOrderly state.now }
+    requires names { length names.now ≡ length state.now.loaded.items }
+    ensures { IfOk result (λ refusal. (w : World Q) → IsStateOf T.rows w state.now → refusal ≡ verdict (named names.now) w (Submit Refresh range.now)) }
+{
+    if let Some(table) = first_absent(&state.loaded) {
+        let name = names[table].copy()?;
+        return Ok(Some(Refused::NotLoaded(name)));
+    }
+    let segment = missing(&state.ranges, range);
+    let job = job_refusal(&state.jobs, range);
+    Ok(or_refused(segment, job))
+}
+
+/// The first refusal that applies to a MERGE of a range, of those that need nothing of the cube: all but LookupsDiffer, which is the last
+/// and is asked of the cube where this is `None`.
+pub fn merge_refusal<T: TableHandle, P: Drop, S: Drop, Q: Drop>(
+    state: &RunState<T, P, S, Q>,
+    range: &Range,
+) -> Option<Refused>
+    requires { IsOrderly state.now }
+    ensures { (w : World Q) → IsStateOf T.rows w state.now → result ≡ verdict (named []) w (Submit Merge range.now) }
+{
+    let cover = cover_refusal(&state.ranges, range);
+    let job = job_refusal(&state.jobs, range);
+    or_refused(cover, job)
+}
+
+/// The first refusal that applies to a drop of a range; `None` where it is accepted.
+pub fn drop_refusal<T: TableHandle, P: Drop, S: Drop, Q: Drop>(
+    state: &RunState<T, P, S, Q>,
+    range: &Range,
+) -> Option<Refused>
+    requires { IsOrderly state.now }
+    ensures { (w : World Q) → IsStateOf T.rows w state.now → result ≡ verdict (named []) w (DropRange range.now) }
+{
+    let segment = missing(&state.ranges, range);
+    let job = job_refusal(&state.jobs, range);
+    or_refused(segment, job)
 }

@@ -44,7 +44,7 @@ abbrev pub small : CubeSemantics Ask AnswerTable
 small = record {
   tables = codes "F" ∷ [];
   steps = λ kind. 3;
-  task = λ kind parts done. length parts ∷ done ∷ [];
+  task = λ kind range parts done. length parts ∷ done ∷ [];
   product = λ task. task;
   is_product = λ task bytes. bytes_eq task bytes;
   rows = λ snapshot. rows_in snapshot.range snapshot.tables;

@@ -4,6 +4,7 @@ use calendar::Day;
 use check_lines::{Words, unknown_line};
 use cube_val::NameText;
 use job_machine::{JobKind, JobState};
+use query_faults::{BindFault, BindKind, SqlFault, SqlKind};
 use range_list::Range;
 use script_text::Refused;
 use std::alloc::Global;
@@ -57,6 +58,37 @@ pub(crate) fn kind(words: &mut Words<'_>) -> io::Result<JobKind> {
     }
 }
 
+// The fault of a query's text that the next two words are.
+fn sql_fault(words: &mut Words<'_>) -> io::Result<SqlFault> {
+    let kind = match words.next()? {
+        "TooLong" => SqlKind::TooLong,
+        "BadToken" => SqlKind::BadToken,
+        "BadNumber" => SqlKind::BadNumber,
+        "TooDeep" => SqlKind::TooDeep,
+        "Unexpected" => SqlKind::Unexpected,
+        _ => return Err(unknown_line()),
+    };
+    let place = words.number()?;
+    Ok(SqlFault { place, kind })
+}
+
+// The fault of a query over a cube that the next two words are.
+fn bind_fault(words: &mut Words<'_>) -> io::Result<BindFault> {
+    let kind = match words.next()? {
+        "NoTable" => BindKind::NoTable,
+        "NoColumn" => BindKind::NoColumn,
+        "NotDimension" => BindKind::NotDimension,
+        "NoMeasure" => BindKind::NoMeasure,
+        "JoinMissing" => BindKind::JoinMissing,
+        "JoinNotInModel" => BindKind::JoinNotInModel,
+        "TypeClash" => BindKind::TypeClash,
+        "NotGrouped" => BindKind::NotGrouped,
+        _ => return Err(unknown_line()),
+    };
+    let place = words.number()?;
+    Ok(BindFault { place, kind })
+}
+
 /// The refusal that the words are.
 pub(crate) fn refused(alloc: Global, words: &mut Words<'_>) -> io::Result<Refused> {
     match words.next()? {
@@ -72,6 +104,9 @@ pub(crate) fn refused(alloc: Global, words: &mut Words<'_>) -> io::Result<Refuse
         "NoSuchJob" => Ok(Refused::NoSuchJob(words.number()?)),
         "JobEnded" => Ok(Refused::JobEnded(state(words)?)),
         "WrongState" => Ok(Refused::WrongState(state(words)?)),
+        "NoSuchTable" => Ok(Refused::NoSuchTable(name(alloc, words)?)),
+        "Sql" => Ok(Refused::Sql(sql_fault(words)?)),
+        "Bind" => Ok(Refused::Bind(bind_fault(words)?)),
         _ => Err(unknown_line()),
     }
 }

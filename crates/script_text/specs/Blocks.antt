@@ -10,7 +10,8 @@ use Rattle.plain_answer.specs.declared.answer.OutVal.{OutVal}
 use Rattle.plain_answer.specs.declared.answer.OutVal.TheVariants.{Null, Whole, Units, Text}
 use Rattle.range_list.specs.Ranges.{Interval}
 use Rattle.run_history.specs.declared.refused.Refused.{Refused}
-use Rattle.run_history.specs.declared.refused.Refused.TheVariants.{NotLoaded, TooManySegments, OverlapsSegment, OverlapsJob, NoSuchSegment, NotOnBounds, OneSegment, Hole, LookupsDiffer, NoSuchJob, JobEnded, WrongState}
+use Rattle.run_history.specs.declared.refused.Refused.TheVariants.{NotLoaded, TooManySegments, OverlapsSegment, OverlapsJob, NoSuchSegment, NotOnBounds, OneSegment, Hole, LookupsDiffer, NoSuchJob, JobEnded, WrongState, NoSuchTable, Sql, Bind}
+use Rattle.query_faults.specs.Texts.{bind_kind_text, sql_kind_text}
 use Rattle.calendar.specs.DayTexts.{day_text}
 use Rattle.script_text.specs.declared.block.Block.{Block}
 use Rattle.script_text.specs.declared.block.Block.TheVariants as block
@@ -47,6 +48,9 @@ refusal_text (LookupsDiffer table) = codes "LookupsDiffer " ++ table
 refusal_text (NoSuchJob job) = codes "NoSuchJob " ++ decimal job
 refusal_text (JobEnded state) = codes "JobEnded " ++ state_text state
 refusal_text (WrongState state) = codes "WrongState " ++ state_text state
+refusal_text (NoSuchTable name) = codes "NoSuchTable " ++ name
+refusal_text (Sql fault) = codes "Sql " ++ sql_kind_text fault.kind ++ codes " " ++ decimal fault.place
+refusal_text (Bind fault) = codes "Bind " ++ bind_kind_text fault.kind ++ codes " " ++ decimal fault.place
 
 -- ---- tables
 

@@ -3,6 +3,8 @@
 ghost use Rattle.std.specs.Prelude.{◌≡◌, [], ◌∷◌, codes};
 ghost use Rattle.job_machine.specs.declared.state.JobKind.TheVariants.{Build};
 ghost use Rattle.job_machine.specs.declared.state.JobState.TheVariants.{Error, Finished, Running};
+ghost use Rattle.query_faults.specs.declared.bind.BindKind.TheVariants.{NoColumn};
+ghost use Rattle.query_faults.specs.declared.sql.SqlKind.TheVariants.{BadToken};
 ghost use Rattle.run_history.specs.declared.refused.Refused.TheVariants as refusal;
 ghost use Rattle.script_text.specs.Blocks.{block_text, end_text};
 ghost use Rattle.script_text.specs.Examples.{four_jobs, refused, two_rows};
@@ -34,4 +36,7 @@ pub fn worked_refusals()
     ensures no_job { block_text 3 (refused (refusal.NoSuchJob 9)) ≡ codes "[3] refused: NoSuchJob 9\n" }
     ensures ended { block_text 3 (refused (refusal.JobEnded Finished)) ≡ codes "[3] refused: JobEnded FINISHED\n" }
     ensures wrong_state { block_text 3 (refused (refusal.WrongState Running)) ≡ codes "[3] refused: WrongState RUNNING\n" }
+    ensures no_table { block_text 3 (refused (refusal.NoSuchTable (codes "BUYERS"))) ≡ codes "[3] refused: NoSuchTable BUYERS\n" }
+    ensures sql { block_text 3 (refused (refusal.Sql (record { place = 12; kind = BadToken }))) ≡ codes "[3] refused: Sql BadToken 12\n" }
+    ensures bind { block_text 3 (refused (refusal.Bind (record { place = 7; kind = NoColumn }))) ≡ codes "[3] refused: Bind NoColumn 7\n" }
 {}

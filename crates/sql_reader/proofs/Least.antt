@@ -2,9 +2,9 @@
 use Rattle.std.proofs.Common.{◌≡◌, ℕ, suc, ◌+◌, ◌-◌, ◌≤◌, false, List, [], ◌∷◌, ◌++◌, length, Option, Some, None, Result, Ok, Err, IfOk, refl, sym, ap, subst, ◌∙◌, append_assoc, append-nil, arith, inl, inr, ◌⊎◌, nat_lt, slice_get}
 use Rattle.std.proofs.lemmas.Bool.{le-ltb}
 use Rattle.std.proofs.lemmas.List.{length-append}
-use Rattle.sql_tokens.specs.declared.fault.SqlFault.{SqlFault}
-use Rattle.sql_tokens.specs.declared.fault.SqlKind.{SqlKind}
-use Rattle.sql_tokens.specs.declared.fault.SqlKind.TheVariants as kinds
+use Rattle.query_faults.specs.declared.sql.SqlFault.{SqlFault}
+use Rattle.query_faults.specs.declared.sql.SqlKind.{SqlKind}
+use Rattle.query_faults.specs.declared.sql.SqlKind.TheVariants as kinds
 use Rattle.sql_tokens.specs.declared.token.Token.{Token}
 use Rattle.sql_tokens.specs.Cuts.{AreTokens}
 use Rattle.sql_tokens.proofs.Cutting.{tokens_are_unique}

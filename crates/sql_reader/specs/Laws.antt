@@ -1,6 +1,6 @@
 -- What holds of every text.
 use Rattle.std.specs.Prelude.{◌≡◌, ℕ, List}
-use Rattle.sql_tokens.specs.declared.fault.SqlFault.{SqlFault}
+use Rattle.query_faults.specs.declared.sql.SqlFault.{SqlFault}
 use Rattle.sql_reader.specs.declared.tree.Query.{Query}
 use Rattle.sql_reader.specs.Sql.{IsFault, IsSql}
 

@@ -1,8 +1,8 @@
 -- Where the reader of tokens stopped, as a place in the text.
 use Rattle.std.specs.Prelude.{ℕ, ◌-◌, List, length, Option, Some, None, Result, Ok, Err, slice_get, option_map, nat_lt, if◌then◌else◌}
-use Rattle.sql_tokens.specs.declared.fault.SqlFault.{SqlFault}
-use Rattle.sql_tokens.specs.declared.fault.SqlKind.{SqlKind}
-use Rattle.sql_tokens.specs.declared.fault.SqlKind.TheVariants as kinds
+use Rattle.query_faults.specs.declared.sql.SqlFault.{SqlFault}
+use Rattle.query_faults.specs.declared.sql.SqlKind.{SqlKind}
+use Rattle.query_faults.specs.declared.sql.SqlKind.TheVariants as kinds
 use Rattle.sql_tokens.specs.declared.token.Token.{Token}
 use Rattle.sql_reader.specs.declared.stop.Stop.{Stop}
 use Rattle.sql_reader.specs.declared.stop.Stop.TheVariants.{Unexpected, Barred}

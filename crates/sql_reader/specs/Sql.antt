@@ -1,7 +1,7 @@
 -- What a text is: a query, or a text with a first fault.
 use Rattle.std.specs.Prelude.{◌≡◌, ℕ, ◌<◌, ◌≤◌, ◌⊎◌, List, [], ◌∷◌, ◌++◌, length, Option, Some, None, Result, Ok, Err}
-use Rattle.sql_tokens.specs.declared.fault.SqlFault.{SqlFault}
-use Rattle.sql_tokens.specs.declared.fault.SqlKind.TheVariants.{TooLong, BadNumber, TooDeep, Unexpected}
+use Rattle.query_faults.specs.declared.sql.SqlFault.{SqlFault}
+use Rattle.query_faults.specs.declared.sql.SqlKind.TheVariants.{TooLong, BadNumber, TooDeep, Unexpected}
 use Rattle.sql_tokens.specs.declared.token.Token.{Token}
 use Rattle.sql_tokens.specs.Cuts.{AreTokens}
 use Rattle.sql_reader.specs.declared.tree.Query.{Query}

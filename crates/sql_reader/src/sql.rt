@@ -1,7 +1,7 @@
 // A text to a query.
 
 ghost use Rattle.std.specs.Prelude.{◌≡◌, ◌≤◌, ◌<◌, length, IfOk, Ok, Err};
-ghost use Rattle.sql_tokens.specs.declared.fault.SqlFault.{SqlFault};
+ghost use Rattle.query_faults.specs.declared.sql.SqlFault.{SqlFault};
 ghost use Rattle.sql_reader.specs.declared.tree.Query.{Query};
 ghost use Rattle.sql_reader.specs.Places.{answer_of, fault_at, kind_of_stop, place_left, tokens_left};
 ghost use Rattle.sql_reader.specs.Sql.{GivesSql, IsFault, IsLeastFault, IsSql};

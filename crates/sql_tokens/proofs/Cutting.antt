@@ -2,8 +2,8 @@
 use Rattle.std.proofs.Common.{◌≡◌, ℕ, ◌+◌, ◌-◌, ◌≤◌, ◌<◌, List, [], ◌∷◌, ◌++◌, length, take, drop, Option, Some, None, refl, sym, ap, subst, ◌∙◌, arith, drop-drop, length-drop}
 use Rattle.std.proofs.lemmas.Grind.{common_steps}
 use Rattle.sql_tokens.specs.declared.kind.Kind.{Kind}
-use Rattle.sql_tokens.specs.declared.fault.SqlFault.{SqlFault}
-use Rattle.sql_tokens.specs.declared.fault.SqlKind.{SqlKind}
+use Rattle.query_faults.specs.declared.sql.SqlFault.{SqlFault}
+use Rattle.query_faults.specs.declared.sql.SqlKind.{SqlKind}
 use Rattle.sql_tokens.specs.declared.payload.Payload.{Payload}
 use Rattle.sql_tokens.specs.declared.lexeme.Lexeme.{Lexeme}
 use Rattle.sql_tokens.specs.declared.lexeme.Lexeme.TheVariants as lexeme

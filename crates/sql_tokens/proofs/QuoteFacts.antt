@@ -7,7 +7,7 @@ use Rattle.std.proofs.lemmas.Str.{IsUtf8-from_is_utf8, is_utf8-from_IsUtf8}
 use Rattle.std.specs.Str.{is_utf8}
 use Rattle.cube_val.specs.Texts.{IsText}
 use Rattle.sql_tokens.specs.declared.kind.Kind.TheVariants as k
-use Rattle.sql_tokens.specs.declared.fault.SqlKind.TheVariants as kinds
+use Rattle.query_faults.specs.declared.sql.SqlKind.TheVariants as kinds
 use Rattle.sql_tokens.specs.declared.payload.Payload.TheVariants as payloads
 use Rattle.sql_tokens.specs.declared.lexeme.Lexeme.TheVariants as lexeme
 use Rattle.sql_tokens.specs.Quotes.{doubled, is_text, put, text_behind, text_lexeme}

@@ -12,7 +12,7 @@ use Rattle.std.proofs.lemmas.List.Quantifiers.{position-Some}
 use Rattle.cube_val.specs.Numbers.{four_places}
 use Rattle.sql_tokens.specs.declared.kind.Kind.{Kind}
 use Rattle.sql_tokens.specs.declared.kind.Kind.TheVariants as k
-use Rattle.sql_tokens.specs.declared.fault.SqlKind.TheVariants.{BadNumber, BadToken}
+use Rattle.query_faults.specs.declared.sql.SqlKind.TheVariants.{BadNumber, BadToken}
 use Rattle.sql_tokens.specs.declared.payload.Payload.{Payload}
 use Rattle.sql_tokens.specs.declared.payload.Payload.TheVariants.{Rows, Units, Name, Text}
 use Rattle.sql_tokens.specs.declared.lexeme.Lexeme.{Lexeme}

@@ -1,7 +1,7 @@
 -- The tokens of a text.
 use Rattle.std.specs.Prelude.{◌≡◌, ℕ, ◌+◌, Bool, ◌||◌, ◌==◌, List, [], ◌∷◌, drop, Option, Some, None}
 use Rattle.std.specs.List.{prefix_len}
-use Rattle.sql_tokens.specs.declared.fault.SqlFault.{SqlFault}
+use Rattle.query_faults.specs.declared.sql.SqlFault.{SqlFault}
 use Rattle.sql_tokens.specs.declared.lexeme.Lexeme.{Lexeme}
 use Rattle.sql_tokens.specs.declared.lexeme.Lexeme.TheVariants as lexeme
 use Rattle.sql_tokens.specs.declared.token.Token.{Token}

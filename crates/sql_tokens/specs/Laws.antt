@@ -1,6 +1,6 @@
 -- What holds of the tokens of every text.
 use Rattle.std.specs.Prelude.{◌≡◌, ℕ, suc, ◌≤◌, Bool, false, ◌==◌, List, [], ◌∷◌, ◌++◌, length, Option, Some, None}
-use Rattle.sql_tokens.specs.declared.fault.SqlFault.{SqlFault}
+use Rattle.query_faults.specs.declared.sql.SqlFault.{SqlFault}
 use Rattle.sql_tokens.specs.declared.token.Token.{Token}
 use Rattle.sql_tokens.specs.Cuts.{AreTokens}
 use Rattle.sql_tokens.specs.Quotes.{doubled, text_behind}

@@ -6,7 +6,7 @@ use Rattle.std.specs.List.{take_while}
 use Rattle.std.specs.Str.Parse.{digits_value}
 use Rattle.cube_val.specs.Numbers.{four_places}
 use Rattle.sql_tokens.specs.declared.kind.Kind.TheVariants as k
-use Rattle.sql_tokens.specs.declared.fault.SqlKind.TheVariants.{BadNumber}
+use Rattle.query_faults.specs.declared.sql.SqlKind.TheVariants.{BadNumber}
 use Rattle.sql_tokens.specs.declared.payload.Payload.TheVariants.{Rows, Units}
 use Rattle.sql_tokens.specs.declared.lexeme.Lexeme.{Lexeme}
 use Rattle.sql_tokens.specs.declared.lexeme.Lexeme.TheVariants.{Bad, Token}

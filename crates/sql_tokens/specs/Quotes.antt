@@ -4,7 +4,7 @@ use Rattle.std.specs.Char.{is_ascii_digit}
 use Rattle.std.specs.List.{list_all, position}
 use Rattle.std.specs.Str.{is_utf8}
 use Rattle.sql_tokens.specs.declared.kind.Kind.TheVariants as k
-use Rattle.sql_tokens.specs.declared.fault.SqlKind.TheVariants.{BadToken}
+use Rattle.query_faults.specs.declared.sql.SqlKind.TheVariants.{BadToken}
 use Rattle.sql_tokens.specs.declared.payload.Payload.TheVariants.{Name, Text}
 use Rattle.sql_tokens.specs.declared.lexeme.Lexeme.{Lexeme}
 use Rattle.sql_tokens.specs.declared.lexeme.Lexeme.TheVariants.{Bad, Token}

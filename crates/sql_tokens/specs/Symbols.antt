@@ -2,7 +2,7 @@
 use Rattle.std.specs.Prelude.{ℕ, ◌&&◌, ◌==◌, List, [], ◌∷◌, Option, Some, None, if◌then◌else◌}
 use Rattle.sql_tokens.specs.declared.kind.Kind.{Kind}
 use Rattle.sql_tokens.specs.declared.kind.Kind.TheVariants as k
-use Rattle.sql_tokens.specs.declared.fault.SqlKind.TheVariants.{BadToken}
+use Rattle.query_faults.specs.declared.sql.SqlKind.TheVariants.{BadToken}
 use Rattle.sql_tokens.specs.declared.payload.Payload.TheVariants.{Nothing}
 use Rattle.sql_tokens.specs.declared.lexeme.Lexeme.{Lexeme}
 use Rattle.sql_tokens.specs.declared.lexeme.Lexeme.TheVariants.{Bad, Token}

@@ -6,7 +6,7 @@ use Rattle.std.specs.List.{take_while}
 use Rattle.std.specs.Option.{option_or}
 use Rattle.sql_tokens.specs.declared.kind.Kind.{Kind}
 use Rattle.sql_tokens.specs.declared.kind.Kind.TheVariants as k
-use Rattle.sql_tokens.specs.declared.fault.SqlKind.TheVariants.{BadToken}
+use Rattle.query_faults.specs.declared.sql.SqlKind.TheVariants.{BadToken}
 use Rattle.sql_tokens.specs.declared.payload.Payload.TheVariants.{Nothing, Name}
 use Rattle.sql_tokens.specs.declared.lexeme.Lexeme.{Lexeme}
 use Rattle.sql_tokens.specs.declared.lexeme.Lexeme.TheVariants.{Bad, Token}

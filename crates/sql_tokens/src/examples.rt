@@ -2,7 +2,7 @@
 
 ghost use Rattle.std.specs.Prelude.{◌≡◌, false, codes};
 ghost use Rattle.sql_tokens.specs.declared.kind.Kind.TheVariants as k;
-ghost use Rattle.sql_tokens.specs.declared.fault.SqlKind.TheVariants.{BadNumber, BadToken};
+ghost use Rattle.query_faults.specs.declared.sql.SqlKind.TheVariants.{BadNumber, BadToken};
 ghost use Rattle.sql_tokens.specs.declared.lexeme.Lexeme.TheVariants.{Bad, Token};
 ghost use Rattle.sql_tokens.specs.declared.payload.Payload.TheVariants.{Name, Nothing, Rows, Units};
 ghost use Rattle.sql_tokens.specs.Lexemes.{next_at};

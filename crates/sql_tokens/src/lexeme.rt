@@ -3,13 +3,13 @@
 ghost use Rattle.std.specs.Prelude.{◌≡◌, IfOk, length};
 ghost use Rattle.sql_tokens.specs.Lexemes.{next_at};
 
-use crate::fault::SqlKind;
 use crate::kind::Kind;
 use crate::number::read_number;
 use crate::payload::Payload;
 use crate::quote::{read_name, read_text};
 use crate::symbol::read_symbol;
 use crate::word::{is_word_byte, read_word};
+use query_faults::SqlKind;
 use std::alloc::{AllocError, Global};
 
 /// What stands in front of a text that begins with no blank.

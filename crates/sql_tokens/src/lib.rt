@@ -14,12 +14,11 @@
 //! - A name is kept in upper case; a number in units of 1/10000; of a text the bytes between the quotes, each doubled quote as one.
 //! - `tokens_of` takes at most `SQL_MAX` bytes, so every place fits a `u32`; whoever calls it answers TooLong before.
 //!
-//! The modules: `kind`, `payload`, `token` and `fault` are the types; `word`, `number`, `quote` and `symbol` read one token each, `lexeme` chooses
+//! The modules: `kind`, `payload` and `token` are the types (those of faults stand in `query_faults`); `word`, `number`, `quote` and `symbol` read one token each, `lexeme` chooses
 //! among them by the first byte, and `lex` goes over the whole text.
 #![tactic(auto)]
 
 mod examples;
-mod fault;
 mod kind;
 mod laws;
 mod lex;
@@ -32,12 +31,12 @@ mod token;
 mod word;
 
 pub use examples::worked_examples;
-pub use fault::{SqlFault, SqlKind};
 pub use kind::Kind;
 pub use laws::{places_rise, quotes_are_doubled, tokens_are_unique};
 pub use lex::{Lexed, SQL_MAX, tokens_of};
 pub use lexeme::Lexeme;
 pub use payload::{Payload, Units};
+pub use query_faults::{SqlFault, SqlKind};
 pub use token::Token;
 
 #[cfg(test)]

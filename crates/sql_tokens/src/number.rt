@@ -8,10 +8,10 @@ ghost use Rattle.std.specs.Str.Parse.{AllDigits, digits_value};
 ghost use Rattle.cube_val.specs.Numbers.{four_places};
 ghost use Rattle.sql_tokens.specs.Numbers;
 
-use crate::fault::SqlKind;
 use crate::kind::Kind;
 use crate::lexeme::Lexeme;
 use crate::payload::{Payload, UNITS, Units};
+use query_faults::SqlKind;
 
 /// The most digits before a number's point.
 const MOST_DIGITS: usize = 30;

@@ -8,12 +8,12 @@ ghost use Rattle.sql_tokens.specs.Words;
 ghost use Rattle.sql_tokens.specs.Quotes.{doubled, text_behind};
 ghost use Rattle.sql_tokens.specs.Said.{joined, pending, said_of};
 
-use crate::fault::SqlKind;
 use crate::kind::Kind;
 use crate::lexeme::Lexeme;
 use crate::payload::Payload;
 use crate::word::{NAME_MAX, is_word_byte, upper};
 use cube_val::{ReadVal, TextVal};
+use query_faults::SqlKind;
 use std::alloc::{AllocError, Global};
 
 const QUOTE: u8 = b'\'';

@@ -3,10 +3,10 @@
 ghost use Rattle.std.specs.Prelude.{◌≡◌, length};
 ghost use Rattle.sql_tokens.specs.Symbols;
 
-use crate::fault::SqlKind;
 use crate::kind::Kind;
 use crate::lexeme::Lexeme;
 use crate::payload::Payload;
+use query_faults::SqlKind;
 
 fn pair(first: u8, second: u8) -> Option<Kind>
     ensures { result ≡ Symbols.pair_of first second }

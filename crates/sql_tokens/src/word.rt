@@ -4,11 +4,11 @@ ghost use Rattle.std.specs.Prelude.{◌≡◌, ◌<◌, ◌≤◌, length, IfOk}
 ghost use Rattle.std.specs.List.{prefix_len};
 ghost use Rattle.sql_tokens.specs.Words;
 
-use crate::fault::SqlKind;
 use crate::kind::Kind;
 use crate::lexeme::Lexeme;
 use crate::payload::Payload;
 use cube_val::NameText;
+use query_faults::SqlKind;
 use std::alloc::{AllocError, Global};
 
 /// The most bytes of a name.

@@ -2,7 +2,7 @@ use Rattle.std.proofs.Common.{◌≡◌, Option, Some, sym, ap, ◌∙◌}
 use Rattle.cube_desc.specs.Cube.{Cube}
 use Rattle.sql_reader.specs.declared.tree.Query.{Query}
 use Rattle.query_names.specs.Faults.{fault_of}
-use Rattle.query_names.specs.declared.kind.BindFault.{BindFault}
+use Rattle.query_faults.specs.declared.bind.BindFault.{BindFault}
 use Rattle.query_bind.proofs.binding.bind.Goals as goal
 
 told : (b c : Cube) (q : Query) (o : Option BindFault) (f g : BindFault) → b ≡ c → o ≡ fault_of b q → o ≡ Some f → f ≡ g → fault_of c q ≡ Some g

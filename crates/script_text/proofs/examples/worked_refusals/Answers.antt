@@ -42,3 +42,15 @@ returns-clause-ended c = refl
 pub returns-clause-wrong_state : goal.returns-clause-wrong_state
 unfolding escaped fields_text is_blank digits
 returns-clause-wrong_state c = refl
+
+pub returns-clause-no_table : goal.returns-clause-no_table
+unfolding escaped fields_text is_blank digits
+returns-clause-no_table c = refl
+
+pub returns-clause-sql : goal.returns-clause-sql
+unfolding escaped fields_text is_blank digits
+returns-clause-sql c = refl
+
+pub returns-clause-bind : goal.returns-clause-bind
+unfolding escaped fields_text is_blank digits
+returns-clause-bind c = refl

@@ -1,5 +1,8 @@
 // What is wrong with a query's text.
 
+ghost use Rattle.std.specs.Prelude.{◌≡◌};
+ghost use Rattle.query_faults.specs.Texts.{sql_kind_text};
+
 /// The kinds of fault.
 #[derive(Clone, Copy, Debug, PartialEq, Eq)]
 pub enum SqlKind {
@@ -15,6 +18,21 @@ pub enum SqlKind {
     TooDeep,
     /// The first token such that no query begins with the tokens up to it and with it; or the end of the text, where the tokens are no query.
     Unexpected,
+}
+
+impl SqlKind {
+    /// The kind's printed word.
+    pub fn as_str(&self) -> &'static str
+        ensures { result.now ≡ sql_kind_text self.now }
+    {
+        match self {
+            SqlKind::TooLong => "TooLong",
+            SqlKind::BadToken => "BadToken",
+            SqlKind::BadNumber => "BadNumber",
+            SqlKind::TooDeep => "TooDeep",
+            SqlKind::Unexpected => "Unexpected",
+        }
+    }
 }
 
 /// A fault, and where it is.

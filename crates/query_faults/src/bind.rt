@@ -1,4 +1,7 @@
-// Faults of queries.
+// Why a cube can't answer a query.
+
+ghost use Rattle.std.specs.Prelude.{◌≡◌};
+ghost use Rattle.query_faults.specs.Texts.{bind_kind_text};
 
 /// Why a query can't be answered by a cube. The kinds are in the order in which they count.
 #[derive(Clone, Copy, Debug, PartialEq, Eq)]
@@ -19,6 +22,24 @@ pub enum BindKind {
     TypeClash,
     /// A column outside aggregates isn't in GROUP BY: at the column.
     NotGrouped,
+}
+
+impl BindKind {
+    /// The kind's printed word.
+    pub fn as_str(&self) -> &'static str
+        ensures { result.now ≡ bind_kind_text self.now }
+    {
+        match self {
+            BindKind::NoTable => "NoTable",
+            BindKind::NoColumn => "NoColumn",
+            BindKind::NotDimension => "NotDimension",
+            BindKind::NoMeasure => "NoMeasure",
+            BindKind::JoinMissing => "JoinMissing",
+            BindKind::JoinNotInModel => "JoinNotInModel",
+            BindKind::TypeClash => "TypeClash",
+            BindKind::NotGrouped => "NotGrouped",
+        }
+    }
 }
 
 /// The first fault of a query.
