@@ -1,0 +1,4 @@
+pub mod Changes
+pub mod Crashes
+pub mod MemoryDisk
+pub mod MemoryLaws

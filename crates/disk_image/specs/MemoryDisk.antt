@@ -1,0 +1,111 @@
+-- What a disk in memory keeps: the file at its start, and a record of its calls.
+use Rattle.std.specs.Prelude.{◌≡◌, ◌≤◌, ◌-◌, ◌+◌, [], ◌∷◌, ℕ, List, length, take, drop, map, reverse, replicate}
+use Rattle.outside.specs.Numbering.{Numbering}
+use Rattle.disk_image.specs.Changes.{written, written_over, Torn, CutShort}
+use Rattle.disk_image.specs.declared.record.Change.{Change}
+use Rattle.disk_image.specs.declared.record.Change.TheVariants as held_change
+use Rattle.disk_image.specs.declared.record.Call.{Call}
+use Rattle.disk_image.specs.declared.record.Call.TheVariants as held_call
+use Rattle.disk_image.specs.declared.record.Fill.{Fill}
+use Rattle.disk_image.specs.declared.record.Fill.TheVariants.{Old, New, Ones}
+
+-- bytes are written at a place, or the file is cut to a length
+pub data FileChange : Type 0 where
+  Writes : ℕ → List ℕ → FileChange
+  Cuts : ℕ → FileChange
+
+-- a call that changes nothing, a sync, and a change that was made or refused
+pub data DiskCall : Type 0 where
+  Looked : DiskCall
+  Synced : DiskCall
+  Changed : FileChange → DiskCall
+  Refused : FileChange → DiskCall
+
+-- the file at the start, the calls so far, the latest first, their numbers, and how many failed
+pub record DiskState : Type 0 where
+  pub start : List ℕ
+  pub calls : List DiskCall
+  pub numbered : Numbering
+  pub faults : ℕ
+
+-- ---- what a read gives
+
+-- the file after a change
+abbrev pub changed : FileChange → List ℕ → List ℕ
+changed (Writes at bytes) file = written at bytes file
+changed (Cuts n) file = take n file
+
+-- the file after a call
+abbrev pub read_after : DiskCall → List ℕ → List ℕ
+read_after Looked file = file
+read_after Synced file = file
+read_after (Changed change) file = changed change file
+read_after (Refused change) file = file
+
+-- the file after the calls
+abbrev pub reads_as : List ℕ → List DiskCall → List ℕ
+reads_as start [] = start
+reads_as start (call ∷ calls) = read_after call (reads_as start calls)
+
+-- ---- what a crash may leave
+
+-- what a crash may make of an image by a change to a file that had this end
+abbrev pub MayTurnInto : ℕ → FileChange → List ℕ → List ℕ → Type 0
+MayTurnInto end (Writes at bytes) old new = Torn end at (length bytes) old new
+MayTurnInto end (Cuts n) old new = CutShort n old new
+
+-- A crash after the calls may leave this. A refused change counts as made, and a sync keeps what is read.
+abbrev pub MayLeave : List ℕ → List DiskCall → List ℕ → Type 0
+MayLeave start [] image = image ≡ start
+MayLeave start (Looked ∷ calls) image = MayLeave start calls image
+MayLeave start (Synced ∷ calls) image = image ≡ reads_as start calls
+MayLeave start (Changed change ∷ calls) image = (earlier : List ℕ) × MayLeave start calls earlier × MayTurnInto (length (reads_as start calls)) change earlier image
+MayLeave start (Refused change ∷ calls) image = (earlier : List ℕ) × MayLeave start calls earlier × MayTurnInto (length (reads_as start calls)) change earlier image
+
+-- the first so many of the calls
+abbrev pub calls_until : ℕ → List DiskCall → List DiskCall
+calls_until n calls = drop (length calls - n) calls
+
+-- a crash at some moment from t on may have left this; a moment is how many calls were made
+pub record LeftSince (start : List ℕ) (calls : List DiskCall) (t : ℕ) (image : List ℕ) : Type 0 where
+  pub moment : ℕ
+  pub since : t ≤ moment
+  pub so_far : moment ≤ length calls
+  pub left : MayLeave start (calls_until moment calls) image
+
+-- ---- what a stop leaves
+
+-- what is left of a change that isn't kept yet: nothing, all, or ones in the place of its bytes
+abbrev pub filled_by : Fill → FileChange → List ℕ → List ℕ
+filled_by Old change image = image
+filled_by New change image = changed change image
+filled_by Ones (Writes at bytes) image = written_over 1 at (replicate (length bytes) 1) image
+filled_by Ones (Cuts n) image = take n image
+
+-- what a stop behind a call leaves, from what is read before the call and what a stop left there
+abbrev pub stopped_after : Fill → DiskCall → List ℕ → List ℕ → List ℕ
+stopped_after fill Looked file image = image
+stopped_after fill Synced file image = file
+stopped_after fill (Changed change) file image = filled_by fill change image
+stopped_after fill (Refused change) file image = filled_by fill change image
+
+-- the file after a stop behind the calls
+abbrev pub stopped : Fill → List ℕ → List DiskCall → List ℕ
+stopped fill start [] = start
+stopped fill start (call ∷ calls) = stopped_after fill call (reads_as start calls) (stopped fill start calls)
+
+-- ---- as they are held
+
+abbrev pub change_of : Change → FileChange
+change_of (held_change.Write at bytes) = Writes at bytes.items
+change_of (held_change.Cut n) = Cuts n
+
+abbrev pub call_of : Call → DiskCall
+call_of held_call.Looked = Looked
+call_of held_call.Synced = Synced
+call_of (held_call.Changed change) = Changed (change_of change)
+call_of (held_call.Refused change) = Refused (change_of change)
+
+-- calls in their order, the latest first
+abbrev pub latest_first : List Call → List DiskCall
+latest_first calls = reverse (map call_of calls)
