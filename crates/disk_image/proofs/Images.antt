@@ -1,5 +1,6 @@
 -- What a stop leaves is one of the images, and images over one call more.
-use Rattle.std.proofs.Common.{◌≡◌, ◌⊎◌, ◌≤◌, ◌-◌, ℕ, suc, List, [], ◌∷◌, length, drop, replicate, inl, inr, refl, sym, ap, subst, arith}
+use Rattle.std.proofs.Common.{◌≡◌, ◌⊎◌, ◌<◌, ◌≤◌, ◌-◌, ℕ, suc, List, [], ◌∷◌, length, drop, replicate, inl, inr, refl, sym, ap, subst, arith}
+use Rattle.std.proofs.lemmas.Bool.{cases_lt}
 use Rattle.std.proofs.lemmas.List.{length-replicate}
 use Rattle.disk_image.specs.Changes.{Torn, written_over}
 use Rattle.disk_image.specs.Crashes.{Elapses}
@@ -31,9 +32,6 @@ earlier_calls call calls n inside =
     let more : suc (length calls) - n ≡ suc (length calls - n) = omega arith in
     ap (λ (k : ℕ). drop k (call ∷ calls)) more
 
-now_or_before : (a b : ℕ) → a ≤ suc b → (a ≤ b) ⊎ (suc b ≤ a)
-now_or_before a b le = omega arith
-
 -- a call was recorded
 pub elapses_over : (start : List ℕ) (call : DiskCall) (calls : List DiskCall) → Elapses (length calls) (length (call ∷ calls)) (LeftSince start calls) (LeftSince start (call ∷ calls)) (MayLeave start (call ∷ calls))
 elapses_over start call calls = record {
@@ -44,12 +42,12 @@ elapses_over start call calls = record {
     so_far = omega (arith, left.so_far);
     left = subst (λ (c : List DiskCall). MayLeave start c image) (sym (earlier_calls call calls left.moment left.so_far)) left.left;
   };
-  nothing_else = λ t image earlier left. which t image left (now_or_before left.moment (length calls) left.so_far);
+  nothing_else = λ t image earlier left. which t image left (cases_lt (length calls) left.moment);
 }
   where
-    which : (t : ℕ) (image : List ℕ) (left : LeftSince start (call ∷ calls) t image) → (left.moment ≤ length calls) ⊎ (suc (length calls) ≤ left.moment) → LeftSince start calls t image ⊎ MayLeave start (call ∷ calls) image
-    which t image left (inl inside) = inl (record { moment = left.moment; since = left.since; so_far = inside; left = subst (λ (c : List DiskCall). MayLeave start c image) (earlier_calls call calls left.moment inside) left.left })
-    which t image left (inr last) = let none : suc (length calls) - left.moment ≡ 0 = omega arith in inr (subst (λ (k : ℕ). MayLeave start (drop k (call ∷ calls)) image) none left.left)
+    which : (t : ℕ) (image : List ℕ) (left : LeftSince start (call ∷ calls) t image) → (length calls < left.moment) ⊎ (left.moment ≤ length calls) → LeftSince start calls t image ⊎ MayLeave start (call ∷ calls) image
+    which t image left (inr inside) = inl (record { moment = left.moment; since = left.since; so_far = inside; left = subst (λ (c : List DiskCall). MayLeave start c image) (earlier_calls call calls left.moment inside) left.left })
+    which t image left (inl last) = let none : suc (length calls) - left.moment ≡ 0 = omega arith in inr (subst (λ (k : ℕ). MayLeave start (drop k (call ∷ calls)) image) none left.left)
 
 -- nothing was recorded
 pub elapses_not : (start : List ℕ) (calls : List DiskCall) → Elapses (length calls) (length calls) (LeftSince start calls) (LeftSince start calls) (MayLeave start calls)

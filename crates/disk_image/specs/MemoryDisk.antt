@@ -1,7 +1,10 @@
 -- What a disk in memory keeps: the file at its start, and a record of its calls.
-use Rattle.std.specs.Prelude.{◌≡◌, ◌≤◌, ◌-◌, ◌+◌, [], ◌∷◌, ℕ, List, length, take, drop, map, reverse, replicate}
-use Rattle.outside.specs.Numbering.{Numbering}
+use Rattle.std.specs.Prelude.{◌≡◌, ◌≤◌, ◌-◌, ◌+◌, [], ◌∷◌, ℕ, Bool, true, false, List, Result, Ok, Err, length, take, drop, map, reverse, replicate}
+use Rattle.outside.specs.Counts.{raised}
+use Rattle.outside.specs.Numbering.{Numbering, NextFails, after_call}
 use Rattle.disk_image.specs.Changes.{written, written_over, Torn, CutShort}
+use Rattle.disk_image.specs.declared.fault.DiskFault.{DiskFault}
+use Rattle.disk_image.specs.declared.fault.DiskFault.TheVariants.{Memory, Failed}
 use Rattle.disk_image.specs.declared.record.Change.{Change}
 use Rattle.disk_image.specs.declared.record.Change.TheVariants as held_change
 use Rattle.disk_image.specs.declared.record.Call.{Call}
@@ -93,6 +96,38 @@ stopped_after fill (Refused change) file image = filled_by fill change image
 abbrev pub stopped : Fill → List ℕ → List DiskCall → List ℕ
 stopped fill start [] = start
 stopped fill start (call ∷ calls) = stopped_after fill call (reads_as start calls) (stopped fill start calls)
+
+-- ---- the same of a state
+
+abbrev pub moment_of : DiskState → ℕ
+moment_of state = length state.calls
+
+abbrev pub content_of : DiskState → List ℕ
+content_of state = reads_as state.start state.calls
+
+abbrev pub MayLeaveNow : DiskState → List ℕ → Type 0
+MayLeaveNow state image = MayLeave state.start state.calls image
+
+abbrev pub LeftSinceThen : DiskState → ℕ → List ℕ → Type 0
+LeftSinceThen state t image = LeftSince state.start state.calls t image
+
+-- A call was recorded as made, or as refused where it has the number of a call that fails; one for which no memory was
+-- found has its number and isn't recorded.
+abbrev pub IsCalled : {A : Type 0} → DiskCall → DiskCall → Result A DiskFault → DiskState → DiskState → Type 0
+IsCalled made refused (Ok answer) old new = (¬ NextFails old.numbered) × (new ≡ record old { calls = made ∷ old.calls; numbered = after_call old.numbered })
+IsCalled made refused (Err Memory) old new = new ≡ record old { numbered = after_call old.numbered }
+IsCalled made refused (Err Failed) old new = NextFails old.numbered × (new ≡ record old { calls = refused ∷ old.calls; numbered = after_call old.numbered; faults = raised old.faults })
+
+-- a call that fails was recorded, unless no memory was found for that
+abbrev pub IsRefused : DiskCall → DiskFault → DiskState → DiskState → Type 0
+IsRefused refused Memory old new = new ≡ old
+IsRefused refused Failed old new = new ≡ record old { calls = refused ∷ old.calls; faults = raised old.faults }
+
+-- a change was recorded as made, or as refused where it fails, unless no memory was found for that
+abbrev pub IsSettled : Bool → FileChange → Result (Unit {0}) DiskFault → DiskState → DiskState → Type 0
+IsSettled fails change (Ok done) old new = (fails ≡ false) × (new ≡ record old { calls = Changed change ∷ old.calls })
+IsSettled fails change (Err Memory) old new = new ≡ old
+IsSettled fails change (Err Failed) old new = (fails ≡ true) × (new ≡ record old { calls = Refused change ∷ old.calls; faults = raised old.faults })
 
 -- ---- as they are held
 

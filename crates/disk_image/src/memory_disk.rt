@@ -9,7 +9,7 @@ ghost use Rattle.disk_image.specs.Crashes.{Elapses, Follows, Only, Within};
 use crate::disk::Disk;
 use crate::fault::DiskFault;
 use crate::record::{Call, Change, Fill};
-use crate::replay::{replayed, stopped_file};
+use crate::replay::{part_of, replayed, stopped_file};
 use std::alloc::{AllocError, Global};
 use std::marker::Model;
 
@@ -37,7 +37,7 @@ impl Model for MemoryDisk {
 }
 
 impl MemoryDisk {
-    ghost use Rattle.disk_image.specs.MemoryDisk.{MayLeave, calls_until, call_of, change_of, Looked, Changed, Refused, reads_as, stopped};
+    ghost use Rattle.disk_image.specs.MemoryDisk.{Changed, IsCalled, IsRefused, IsSettled, Looked, MayLeave, Refused, Synced, Writes, call_of, calls_until, change_of, content_of, reads_as, stopped};
 
     /// A disk with these bytes, all of them kept, whose calls with these numbers fail; the first has the number 1.
     pub fn new(alloc: Global, bytes: Vec<u8>, failing: Vec<u32>) -> MemoryDisk
@@ -67,13 +67,9 @@ impl MemoryDisk {
         replayed(self.alloc, self.start.as_slice(), self.calls.as_slice())
     }
 
-    /// What a stop leaves behind the first `call` calls of the record, all where there are fewer, with this in the place
-    /// of what wasn't kept yet.
-    pub fn after_stop(&self, call: u32, fill: Fill) -> Result<Vec<u8>, AllocError>
-        ensures stopped { IfOk result (λ image. image.items ≡ stopped fill self.now.start (calls_until call self.now.calls)) }
-
-        // It is one of the images that a crash there may leave.
-        ensures left { IfOk result (λ image. MayLeave self.now.start (calls_until call self.now.calls) image.items) }
+    // What a stop leaves behind the first calls of the record.
+    fn stopped_behind(&self, call: u32, fill: Fill) -> Result<Vec<u8>, AllocError>
+        ensures { IfOk result (λ image. image.items ≡ stopped fill self.now.start (calls_until call self.now.calls)) }
     {
         let (calls, _later) = self
             .calls
@@ -82,10 +78,23 @@ impl MemoryDisk {
         stopped_file(self.alloc, self.start.as_slice(), calls, fill)
     }
 
+    /// What a stop leaves behind the first `call` calls of the record, all where there are fewer, with this in the place
+    /// of what wasn't kept yet.
+    pub fn after_stop(&self, call: u32, fill: Fill) -> Result<Vec<u8>, AllocError>
+        ensures stopped { IfOk result (λ image. image.items ≡ stopped fill self.now.start (calls_until call self.now.calls)) }
+
+        // It is one of the images that a crash there may leave.
+        ensures left { IfOk result (λ image. MayLeave self.now.start (calls_until call self.now.calls) image.items) }
+    {
+        self.stopped_behind(call, fill)
+    }
+
     // Counts a call, and says whether it is one that fails.
     fn next_fails(&mut self) -> bool
         ensures counted { self.new ≡ record self.old { numbered = after_call self.old.numbered } }
         ensures fails { IsTrue result ↔ NextFails self.old.numbered }
+        ensures was_bounded { self.old.faults < 2 ^ 64 }
+        ensures bounded { self.new.faults < 2 ^ 64 }
     {
         self.made = self.made.saturating_add(1);
         self.failing
@@ -96,7 +105,7 @@ impl MemoryDisk {
     // Puts a call into the record.
     fn keep(&mut self, call: Call) -> Result<(), DiskFault>
         ensures kept { OnOk result (self.new ≡ record self.old { calls = call_of call ∷ self.old.calls }) }
-        ensures refused { OnErr result (self.new ≡ self.old) }
+        ensures unkept { OnErr result (self.new ≡ self.old) }
         ensures memory { OnErr result (result ≡ Err DiskFault.Memory) }
     {
         self.calls.push(call)?;
@@ -110,5 +119,179 @@ impl MemoryDisk {
     {
         self.faults = self.faults.saturating_add(1);
         DiskFault::Failed
+    }
+
+    // Puts a call that fails into the record.
+    fn refuse(&mut self, call: Call) -> DiskFault
+        ensures { IsRefused (call_of call) result self.old self.new }
+    {
+        match self.keep(call) {
+            Ok(()) => self.fail(),
+            Err(fault) => fault,
+        }
+    }
+
+    // The length of the file, which the record keeps as a look.
+    fn look_at_length(&mut self) -> Result<u64, DiskFault>
+        ensures called { IsCalled Looked Looked result self.old self.new }
+        ensures len { IfOk result (λ n. n ≡ length (content_of self.old)) }
+        ensures was_bounded { self.old.faults < 2 ^ 64 }
+        ensures bounded { self.new.faults < 2 ^ 64 }
+    {
+        if self.next_fails() {
+            return Err(self.refuse(Call::Looked));
+        }
+        let n = self.bytes()?.len();
+        self.keep(Call::Looked)?;
+        Ok(n as u64)
+    }
+
+    // A part of the file, which the record keeps as a look.
+    fn look_at_part(&mut self, alloc: Global, at: usize, n: usize) -> Result<Vec<u8>, DiskFault>
+        ensures called { IsCalled Looked Looked result self.old self.new }
+        ensures part { IfOk result (λ part. part.items ≡ take n (drop at (content_of self.old))) }
+        ensures was_bounded { self.old.faults < 2 ^ 64 }
+        ensures bounded { self.new.faults < 2 ^ 64 }
+    {
+        if self.next_fails() {
+            return Err(self.refuse(Call::Looked));
+        }
+        let file = self.bytes()?;
+        let part = part_of(alloc, file.as_slice(), at, n)?;
+        self.keep(Call::Looked)?;
+        Ok(part)
+    }
+
+    // A write, which the record keeps as made, or as refused where the call fails.
+    fn write(&mut self, at: u64, bytes: &[u8]) -> Result<(), DiskFault>
+        ensures called { IsCalled (Changed (Writes at bytes.now)) (Refused (Writes at bytes.now)) result self.old self.new }
+        ensures was_bounded { self.old.faults < 2 ^ 64 }
+        ensures bounded { self.new.faults < 2 ^ 64 }
+    {
+        let fails = self.next_fails();
+        let bytes = Vec::from_slice(self.alloc, bytes)?;
+        self.settle(Change::Write { at, bytes }, fails)
+    }
+
+    // Puts a change into the record, as made or as refused.
+    fn settle(&mut self, change: Change, fails: bool) -> Result<(), DiskFault>
+        ensures { IsSettled fails (change_of change) result self.old self.new }
+    {
+        if fails {
+            return Err(self.refuse(Call::Refused(change)));
+        }
+        self.keep(Call::Changed(change))
+    }
+
+    // A change, which the record keeps as made, or as refused where the call fails.
+    fn change(&mut self, change: Change) -> Result<(), DiskFault>
+        ensures called { IsCalled (Changed (change_of change)) (Refused (change_of change)) result self.old self.new }
+        ensures was_bounded { self.old.faults < 2 ^ 64 }
+        ensures bounded { self.new.faults < 2 ^ 64 }
+    {
+        let fails = self.next_fails();
+        self.settle(change, fails)
+    }
+
+    // A sync, which the record keeps as a look where the call fails.
+    fn keep_all(&mut self) -> Result<(), DiskFault>
+        ensures called { IsCalled Synced Looked result self.old self.new }
+        ensures was_bounded { self.old.faults < 2 ^ 64 }
+        ensures bounded { self.new.faults < 2 ^ 64 }
+    {
+        if self.next_fails() {
+            return Err(self.refuse(Call::Looked));
+        }
+        self.keep(Call::Synced)
+    }
+}
+
+impl Disk for MemoryDisk {
+    ghost use Rattle.disk_image.specs.MemoryDisk.{Changed, Cuts, IsCalled, LeftSinceThen, Looked, MayLeaveNow, Refused, Synced, Writes, content_of, moment_of};
+    ghost use Rattle.disk_image.specs.MemoryLaws.{now_is_since, read_may_be_left, since_now_is_now};
+
+    ghost content = { λ d. Some (content_of d) };
+
+    ghost may_leave = { λ d. MayLeaveNow d };
+
+    ghost moment = { λ d. moment_of d };
+
+    ghost left_since = { λ d. LeftSinceThen d };
+
+    ghost faults = { λ d. d.faults };
+
+    ghost reads = { λ d bytes is. read_may_be_left d.start d.calls bytes is };
+
+    ghost counts_now = { λ d t image earlier left. now_is_since d.start d.calls t image earlier left };
+
+    ghost only_now = { λ d image since. since_now_is_now d.start d.calls image since };
+
+    fn len(&mut self) -> Result<u64, DiskFault>
+        ensures len { IfOk result (λ n. n ≡ length (content_of self.old)) }
+
+        // It fails exactly at the numbered calls, and is recorded unless no memory was found.
+        ensures called { IsCalled Looked Looked result self.old self.new }
+
+        ensures same { Some (content_of self.new) ≡ Some (content_of self.old) }
+        ensures images { Within (MayLeaveNow self.old) (MayLeaveNow self.new) }
+        ensures time { Elapses (moment_of self.old) (moment_of self.new) (LeftSinceThen self.old) (LeftSinceThen self.new) (MayLeaveNow self.new) }
+        ensures failed { IsErrOf result DiskFault.Failed → Rose self.old.faults self.new.faults }
+        ensures faults { self.old.faults ≤ self.new.faults }
+        ensures bounded { self.new.faults < 2 ^ 64 }
+    {
+        self.look_at_length()
+    }
+
+    fn read(&mut self, alloc: Global, at: u64, n: u32) -> Result<Vec<u8>, DiskFault>
+        ensures bytes { IfOk result (λ part. part.items ≡ take n (drop at (content_of self.old))) }
+        ensures limited { IfOk result (λ part. length part.items ≤ n) }
+        ensures called { IsCalled Looked Looked result self.old self.new }
+        ensures same { Some (content_of self.new) ≡ Some (content_of self.old) }
+        ensures images { Within (MayLeaveNow self.old) (MayLeaveNow self.new) }
+        ensures time { Elapses (moment_of self.old) (moment_of self.new) (LeftSinceThen self.old) (LeftSinceThen self.new) (MayLeaveNow self.new) }
+        ensures failed { IsErrOf result DiskFault.Failed → Rose self.old.faults self.new.faults }
+        ensures faults { self.old.faults ≤ self.new.faults }
+        ensures bounded { self.new.faults < 2 ^ 64 }
+    {
+        self.look_at_part(alloc, at as usize, n as usize)
+    }
+
+    fn write_at(&mut self, at: u64, bytes: &[u8]) -> Result<(), DiskFault>
+        ensures written { OnOk result (Some (content_of self.new) ≡ Some (written at bytes.now (content_of self.old))) }
+        ensures called { IsCalled (Changed (Writes at bytes.now)) (Refused (Writes at bytes.now)) result self.old self.new }
+        ensures torn { Follows (Torn (length (content_of self.old)) at (length bytes.now)) (MayLeaveNow self.old) (MayLeaveNow self.new) }
+        ensures memory { IsErrOf result DiskFault.Memory → (Some (content_of self.new) ≡ Some (content_of self.old)) × Within (MayLeaveNow self.old) (MayLeaveNow self.new) }
+        ensures time { Elapses (moment_of self.old) (moment_of self.new) (LeftSinceThen self.old) (LeftSinceThen self.new) (MayLeaveNow self.new) }
+        ensures failed { IsErrOf result DiskFault.Failed → Rose self.old.faults self.new.faults }
+        ensures faults { self.old.faults ≤ self.new.faults }
+        ensures bounded { self.new.faults < 2 ^ 64 }
+    {
+        self.write(at, bytes)
+    }
+
+    fn cut(&mut self, len: u64) -> Result<(), DiskFault>
+        ensures cut { OnOk result (Some (content_of self.new) ≡ Some (take len (content_of self.old))) }
+        ensures called { IsCalled (Changed (Cuts len)) (Refused (Cuts len)) result self.old self.new }
+        ensures torn { Follows (CutShort len) (MayLeaveNow self.old) (MayLeaveNow self.new) }
+        ensures memory { IsErrOf result DiskFault.Memory → (Some (content_of self.new) ≡ Some (content_of self.old)) × Within (MayLeaveNow self.old) (MayLeaveNow self.new) }
+        ensures time { Elapses (moment_of self.old) (moment_of self.new) (LeftSinceThen self.old) (LeftSinceThen self.new) (MayLeaveNow self.new) }
+        ensures failed { IsErrOf result DiskFault.Failed → Rose self.old.faults self.new.faults }
+        ensures faults { self.old.faults ≤ self.new.faults }
+        ensures bounded { self.new.faults < 2 ^ 64 }
+    {
+        self.change(Change::Cut(len))
+    }
+
+    fn sync(&mut self) -> Result<(), DiskFault>
+        ensures kept { OnOk result (Only (content_of self.old) (MayLeaveNow self.new)) }
+        ensures called { IsCalled Synced Looked result self.old self.new }
+        ensures same { Some (content_of self.new) ≡ Some (content_of self.old) }
+        ensures images { Within (MayLeaveNow self.old) (MayLeaveNow self.new) }
+        ensures time { Elapses (moment_of self.old) (moment_of self.new) (LeftSinceThen self.old) (LeftSinceThen self.new) (MayLeaveNow self.new) }
+        ensures failed { IsErrOf result DiskFault.Failed → Rose self.old.faults self.new.faults }
+        ensures faults { self.old.faults ≤ self.new.faults }
+        ensures bounded { self.new.faults < 2 ^ 64 }
+    {
+        self.keep_all()
     }
 }

@@ -15,6 +15,15 @@ fn behind<'a>(bytes: &'a [u8], place: usize) -> &'a [u8]
     rest
 }
 
+/// `n` bytes from this place on, or fewer where they end.
+pub fn part_of(alloc: Global, bytes: &[u8], at: usize, n: usize) -> Result<Vec<u8>, AllocError>
+    ensures { IfOk result (λ part. part.items ≡ take n (drop at bytes.now)) }
+{
+    let rest = behind(bytes, at);
+    let (part, _later) = rest.split_at(n.min(rest.len()));
+    Vec::from_slice(alloc, part)
+}
+
 // The file with the bytes at this place; where they stand behind its end, `gap` stands between.
 fn write_over(
     alloc: Global,
