@@ -1,0 +1,18 @@
+-- A log that a disk keeps.
+use Rattle.std.specs.Prelude.{◌≡◌, ◌≢◌, ◌⊎◌, ◌++◌, [], ◌∷◌, ℕ, List, Option, Some, All, length}
+use Rattle.disk_image.specs.Crashes.{Only}
+use Rattle.entry_log.specs.Logs.{entries_text, FitsBody, ReadsAs}
+
+-- The disk reads as a log of these bodies whose gate, at this place, is closed, and a crash leaves just that.
+pub record Keeps (content : Option (List ℕ)) (may_leave : List ℕ → Type 0) (gate : ℕ) (bodies : List (List ℕ)) : Type 0 where
+  pub byte : ℕ
+  pub rest : List ℕ
+  pub closed : byte ≢ 1
+  pub told : content ≡ Some (entries_text bodies ++ byte ∷ rest)
+  pub place : gate ≡ length (entries_text bodies)
+  pub fits : All FitsBody bodies
+  pub only : Only (entries_text bodies ++ byte ∷ rest) may_leave
+
+-- the bytes are the log from before, or that with one more body
+abbrev pub IsBeforeOrAfter : List (List ℕ) → List ℕ → List ℕ → Type 0
+IsBeforeOrAfter bodies body bytes = ReadsAs bytes bodies ⊎ ReadsAs bytes (bodies ++ body ∷ [])

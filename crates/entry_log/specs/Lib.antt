@@ -1,0 +1,4 @@
+pub mod Logs
+pub mod Kept
+pub mod Laws
+pub mod Examples
