@@ -2,3 +2,4 @@ pub mod Logs
 pub mod Kept
 pub mod Laws
 pub mod Examples
+pub mod Faults

@@ -1,6 +1,9 @@
 //! A log of entries in a file, which outlives a crash at any moment.
 #![tactic(auto)]
 
+mod fault;
+mod kept;
 mod laws;
 
+pub use fault::LogFault;
 pub use laws::logs_are_one;
