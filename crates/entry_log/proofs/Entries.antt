@@ -52,3 +52,9 @@ entry_is_one a b rest more fits_a fits_b same =
 -- an entry is more than its gate
 pub entry_is_long : (body : List ℕ) → 2 ≤ length (entry_text body)
 entry_is_long body = omega (arith, length-append (to_be_bytes w64 (length (frame_text (entry_frame body)))) (frame_text (entry_frame body)))
+
+-- a frame in memory is short enough
+pub frame_in_memory : (body frame : List ℕ) → frame ≡ frame_text (entry_frame body) → length body < 2 ^ 64 → length frame < 2 ^ 64 → FitsBody body
+frame_in_memory body frame is short whole =
+    let fits : FitsFrame (entry_frame body) = record { version = omega arith; task = refl; body = short } in
+    omega (arith, ap length is, length-frame_text (entry_frame body) fits, whole)

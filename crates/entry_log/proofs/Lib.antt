@@ -1,3 +1,5 @@
 mod Entries
 mod OneLog
 mod Changes
+mod Appended
+mod Runs

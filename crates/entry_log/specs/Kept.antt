@@ -16,3 +16,7 @@ pub record Keeps (content : Option (List ℕ)) (may_leave : List ℕ → Type 0)
 -- the bytes are the log from before, or that with one more body
 abbrev pub IsBeforeOrAfter : List (List ℕ) → List ℕ → List ℕ → Type 0
 IsBeforeOrAfter bodies body bytes = ReadsAs bytes bodies ⊎ ReadsAs bytes (bodies ++ body ∷ [])
+
+-- there are no bytes, or they are the log without entries
+abbrev pub IsEmptyOr : List ℕ → Type 0
+IsEmptyOr bytes = (bytes ≡ []) ⊎ ReadsAs bytes []

@@ -4,6 +4,8 @@
 mod fault;
 mod kept;
 mod laws;
+mod log;
 
 pub use fault::LogFault;
 pub use laws::logs_are_one;
+pub use log::Log;

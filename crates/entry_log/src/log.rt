@@ -1,0 +1,64 @@
+//! A log of entries on a disk.
+
+ghost use Rattle.std.specs.Prelude.{◌≡◌, ◌≢◌, ◌⊎◌, ◌++◌, ◌≤◌, ◌<◌, ◌^◌, [], ◌∷◌, ℕ, List, Some, Err, IfOk, OnOk, OnErr, IsErrOf, length};
+ghost use Rattle.std.specs.Int.{w64};
+ghost use Rattle.byte_frame.specs.Frames.{frame_text};
+ghost use Rattle.byte_frame.specs.Spelling.{sized_text};
+ghost use Rattle.disk_image.specs.Crashes.{LeavesOnly, Only};
+ghost use Rattle.entry_log.specs.Kept.{IsBeforeOrAfter, IsEmptyOr, Keeps};
+ghost use Rattle.entry_log.specs.Logs.{FitsBody, ReadsAs, entry_frame};
+ghost use Rattle.outside.specs.Counts.{Rose};
+
+use crate::fault::LogFault;
+use crate::kept::write_kept;
+use byte_frame::{FrameHead, put_bytes, put_frame, put_u8, put_u64};
+use disk_image::Disk;
+use std::alloc::{AllocError, Global};
+use std::marker::Model;
+
+const HEAD: FrameHead = FrameHead {
+    version: 2,
+    task: [0; 32],
+};
+
+/// A log on a disk, seen as the place of its closed gate. It holds neither the disk nor the entries.
+#[derive(Drop)]
+pub struct Log {
+    gate: u64,
+}
+
+impl Model for Log {
+    ghost use Rattle.std.specs.Prelude.{ℕ};
+
+    ghost Value = { ℕ };
+
+    ghost view = { λ l. l.gate };
+}
+
+// What an entry is behind its gate, and a closed gate behind that.
+fn staged(alloc: Global, body: &[u8]) -> Result<Vec<u8>, AllocError>
+    ensures text { IfOk result (λ v. v.items ≡ sized_text w64 (frame_text (entry_frame body.now)) ++ 0 ∷ []) }
+    ensures fits { OnOk result (FitsBody body.now) }
+{
+    let frame = put_frame(alloc, &HEAD, body)?;
+    let mut staged = Vec::new(alloc);
+    put_u64(&mut staged, frame.len() as u64)?;
+    put_bytes(&mut staged, frame.as_slice())?;
+    put_u8(&mut staged, 0)?;
+    Ok(staged)
+}
+
+impl Log {
+    /// The log without entries, on a disk without bytes. Where all of the disk was kept, a crash at any moment of the
+    /// call leaves no bytes or that log.
+    pub fn create<D: Disk>(disk: &mut D) -> Result<Log, LogFault>
+        ensures kept { IfOk result (λ log. D.content disk.old ≡ Some [] → Keeps (D.content disk.new) (D.may_leave disk.new) log []) }
+        ensures any_moment { D.content disk.old ≡ Some [] → Only [] (D.may_leave disk.old) → LeavesOnly D.moment D.left_since disk.old disk.new IsEmptyOr }
+        ensures always_log { result ≢ Err LogFault.NotLog }
+        ensures failed { IsErrOf result LogFault.Disk → Rose (D.faults disk.old) (D.faults disk.new) }
+        ensures faults { D.faults disk.old ≤ D.faults disk.new }
+    {
+        write_kept(disk, 0, &[0])?;
+        Ok(Log { gate: 0 })
+    }
+}
