@@ -61,4 +61,50 @@ impl Log {
         write_kept(disk, 0, &[0])?;
         Ok(Log { gate: 0 })
     }
+
+    /// Adds an entry with this body behind the others. From `Ok` on the entry is there after every crash. At `Err` it
+    /// may be there or not: then the log is opened again.
+    pub fn append<D: Disk>(
+        &mut self,
+        alloc: Global,
+        disk: &mut D,
+        body: &[u8],
+    ) -> Result<(), LogFault>
+        ensures acknowledged { OnOk result ((bodies : List (List ℕ)) → Keeps (D.content disk.old) (D.may_leave disk.old) self.old bodies → Keeps (D.content disk.new) (D.may_leave disk.new) self.new (bodies ++ body.now ∷ [])) }
+
+        // A crash at any moment of the call leaves the log from before it, or that with the entry.
+        ensures any_moment { (bodies : List (List ℕ)) → Keeps (D.content disk.old) (D.may_leave disk.old) self.old bodies → LeavesOnly D.moment D.left_since disk.old disk.new (IsBeforeOrAfter bodies body.now) }
+
+        // So does the disk as it reads then, whatever the answer.
+        ensures reads { (bodies : List (List ℕ)) (bytes : List ℕ) → Keeps (D.content disk.old) (D.may_leave disk.old) self.old bodies → D.content disk.new ≡ Some bytes → IsBeforeOrAfter bodies body.now bytes }
+
+        ensures always_log { result ≢ Err LogFault.NotLog }
+        ensures failed { IsErrOf result LogFault.Disk → Rose (D.faults disk.old) (D.faults disk.new) }
+        ensures faults { D.faults disk.old ≤ D.faults disk.new }
+    {
+        self.add(alloc, disk, body)
+    }
+
+    // Adds an entry, of which `append` says more.
+    fn add<D: Disk>(
+        &mut self,
+        alloc: Global,
+        disk: &mut D,
+        body: &[u8],
+    ) -> Result<(), LogFault>
+        ensures acknowledged { OnOk result ((bodies : List (List ℕ)) → Keeps (D.content disk.old) (D.may_leave disk.old) self.old bodies → Keeps (D.content disk.new) (D.may_leave disk.new) self.new (bodies ++ body.now ∷ [])) }
+        ensures any_moment { (bodies : List (List ℕ)) → Keeps (D.content disk.old) (D.may_leave disk.old) self.old bodies → LeavesOnly D.moment D.left_since disk.old disk.new (IsBeforeOrAfter bodies body.now) }
+        ensures always_log { result ≢ Err LogFault.NotLog }
+        ensures failed { IsErrOf result LogFault.Disk → Rose (D.faults disk.old) (D.faults disk.new) }
+        ensures faults { D.faults disk.old ≤ D.faults disk.new }
+    {
+        let entry = staged(alloc, body)?;
+        let Some(next) = self.gate.checked_add(entry.len() as u64) else {
+            return Err(LogFault::Memory);
+        };
+        write_kept(disk, self.gate + 1, entry.as_slice())?;
+        write_kept(disk, self.gate, &[1])?;
+        self.gate = next;
+        Ok(())
+    }
 }
