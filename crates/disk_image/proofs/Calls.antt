@@ -1,7 +1,6 @@
 -- What a recorded call does to a state.
-use Rattle.std.proofs.Common.{◌≡◌, ◌≤◌, ◌<◌, ◌^◌, ◌∙◌, ℕ, List, ◌∷◌, Result, Ok, Err, refl, sym, subst, ap, arith}
+use Rattle.std.proofs.Common.{◌≤◌, ◌<◌, ◌^◌, ℕ, List, Result, Ok, Err, sym, subst, arith}
 use Rattle.outside.specs.Counts.{raised}
-use Rattle.outside.specs.Numbering.{after_call}
 use Rattle.disk_image.specs.Crashes.{Elapses, Within}
 use Rattle.disk_image.specs.MemoryDisk.{DiskCall, DiskState, IsCalled, LeftSinceThen, Looked, MayLeave, MayLeaveNow, Synced, moment_of}
 use Rattle.disk_image.specs.MemoryLaws.{reading_may_be_left}

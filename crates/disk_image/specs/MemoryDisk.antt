@@ -1,5 +1,5 @@
 -- What a disk in memory keeps: the file at its start, and a record of its calls.
-use Rattle.std.specs.Prelude.{◌≡◌, ◌≤◌, ◌-◌, ◌+◌, [], ◌∷◌, ℕ, Bool, true, false, List, Result, Ok, Err, length, take, drop, map, reverse, replicate}
+use Rattle.std.specs.Prelude.{◌≡◌, ◌≤◌, ◌-◌, [], ◌∷◌, ℕ, Bool, true, false, List, Result, Ok, Err, length, take, drop, map, reverse, replicate}
 use Rattle.outside.specs.Counts.{raised}
 use Rattle.outside.specs.Numbering.{Numbering, NextFails, after_call}
 use Rattle.disk_image.specs.Changes.{written, written_over, Torn, CutShort}

@@ -1,6 +1,6 @@
 -- What is read is one of the images, and the moment now is one of those since an earlier one.
-use Rattle.std.specs.Prelude.{◌≡◌, ◌<◌, ◌≤◌, ◌-◌, ◌+◌, ◌⊎◌, ◌++◌, ℕ, zero, suc, List, [], ◌∷◌, length, take, drop, replicate, max, min, slice_index, Some, refl}
-use Rattle.std.proofs.Common.{arith, inl, inr, ⊎_elim, sym, ◌∙◌, ap, subst, get_or, length-append, length-take, length-drop}
+use Rattle.std.specs.Prelude.{◌≡◌, ◌<◌, ◌≤◌, ◌-◌, ◌+◌, ◌++◌, ℕ, List, [], ◌∷◌, length, take, drop, replicate, max, Some, refl}
+use Rattle.std.proofs.Common.{arith, ⊎_elim, sym, ◌∙◌, ap, subst, get_or, length-append, length-take, length-drop}
 use Rattle.std.proofs.lemmas.List.{length-replicate, get_or_append_left, get_or-append_right, get_or-take, get_or-drop}
 use Rattle.disk_image.specs.Changes.{written_over, Torn, CutShort}
 use Rattle.disk_image.specs.MemoryDisk.{FileChange, Writes, Cuts, DiskCall, Looked, Synced, Changed, Refused, MayTurnInto, MayLeave, LeftSince, changed, reads_as, calls_until}

@@ -73,7 +73,13 @@ fn fill_change(
 {
     match (fill, change) {
         (Fill::Old, _) => Ok(image),
-        (Fill::New, Change::Write { at, bytes }) => write_over(alloc, image, *at, bytes.as_slice(), 0),
+        (Fill::New, Change::Write { at, bytes }) => write_over(
+            alloc,
+            image,
+            *at,
+            bytes.as_slice(),
+            0,
+        ),
         (Fill::Ones, Change::Write { at, bytes }) => {
             write_over(alloc, image, *at, ones(alloc, bytes.len())?.as_slice(), 1)
         }

@@ -1,17 +1,16 @@
 -- What the two writes of an append make of a log, and what a crash leaves of them.
-use Rattle.std.proofs.Common.{◌≡◌, ◌≢◌, ◌⊎◌, inl, inr, ⊎_elim, ◌+◌, ◌<◌, ◌≤◌, ◌^◌, ◌∙◌, ℕ, List, [], ◌∷◌, ◌++◌, length, get_or, drop, refl, sym, ap, subst, arith, append_assoc, length-append}
+use Rattle.std.proofs.Common.{◌≡◌, ◌≢◌, ◌⊎◌, inl, inr, ◌+◌, ◌≤◌, ◌∙◌, ℕ, List, [], ◌∷◌, ◌++◌, length, get_or, drop, refl, sym, ap, subst, arith, append_assoc, length-append}
 use Rattle.std.specs.Prelude.{All}
 use Rattle.std.specs.Int.{w64}
-use Rattle.std.specs.List.{flat_map}
 use Rattle.std.proofs.lemmas.Bool.{cases_eq}
-use Rattle.std.proofs.lemmas.List.{append-nil, flat_map_more}
+use Rattle.std.proofs.lemmas.List.{flat_map_more}
 use Rattle.std.proofs.lemmas.List.Elements.{All-append}
 use Rattle.byte_frame.specs.Frames.{frame_text}
 use Rattle.byte_frame.specs.Spelling.{sized_text}
-use Rattle.disk_image.specs.Changes.{Torn, written}
+use Rattle.disk_image.specs.Changes.{Torn}
 use Rattle.entry_log.specs.Kept.{IsBeforeOrAfter}
-use Rattle.entry_log.specs.Logs.{FitsBody, IsLog, ReadsAs, entries_text, entry_frame, entry_text}
-use Rattle.entry_log.proofs.Changes.{torn_at_gate, torn_behind, written_at_gate, written_behind}
+use Rattle.entry_log.specs.Logs.{FitsBody, ReadsAs, entries_text, entry_frame, entry_text}
+use Rattle.entry_log.proofs.Changes.{torn_at_gate, torn_behind}
 
 -- what stands behind an open gate, with a closed gate behind it
 abbrev pub staged_text : List ℕ → List ℕ

@@ -1,8 +1,8 @@
 -- What a write behind the gate and one at the gate make of bytes, and what a crash may leave of them.
-use Rattle.std.proofs.Common.{◌≡◌, ◌⊎◌, inl, inr, ⊎_elim, ◌+◌, ◌-◌, ◌<◌, ◌≤◌, ◌∙◌, ℕ, suc, List, [], ◌∷◌, ◌++◌, length, get_or, take, drop, max, refl, sym, ap, subst, arith, append_assoc, length-append, length-take, length-drop, take-append-drop}
+use Rattle.std.proofs.Common.{◌≡◌, ◌⊎◌, inl, inr, ⊎_elim, ◌+◌, ◌-◌, ◌<◌, ◌≤◌, ◌∙◌, ℕ, suc, List, [], ◌∷◌, ◌++◌, length, get_or, take, drop, refl, sym, ap, arith, append_assoc, length-append, length-take, take-append-drop}
 use Rattle.std.specs.Prelude.{replicate}
 use Rattle.std.proofs.lemmas.Bool.{cases_lt}
-use Rattle.std.proofs.lemmas.List.{append-nil, drop_all, drop_at, drop-drop, drop_more, ext_get_or, get_or_append_left, get_or_at, get_or-append_right, get_or-drop, get_or-take, take_all, take_at}
+use Rattle.std.proofs.lemmas.List.{append-nil, drop_at, drop-drop, ext_get_or, get_or_append_left, get_or_at, get_or-append_right, get_or-take, take_at}
 use Rattle.disk_image.specs.Changes.{Torn, written}
 
 -- ---- behind the gate
@@ -38,9 +38,9 @@ torn_behind end n front rest image byte inside torn =
     let whole : length old ≡ length kept + length rest = ap length parts ∙ length-append kept rest in
     let room : length front + 1 ≤ length image = omega (arith, whole, long, torn.no_shorter) in
     let same : take (length front + 1) image ≡ take (length front + 1) old =
-        ext_get_or 0 _ _ (omega (arith, length-take (length front + 1) image, length-take (length front + 1) old, whole, long, room))
-        (λ i below. let lt : i < length front + 1 = omega (arith, below, length-take (length front + 1) image) in
-            get_or-take (length front + 1) image i 0 lt ∙ torn.same i (omega (arith, lt, whole, long)) (omega (arith, lt, inside)) (inl lt) ∙ sym (get_or-take (length front + 1) old i 0 lt)) in
+    ext_get_or 0 _ _ (omega (arith, length-take (length front + 1) image, length-take (length front + 1) old, whole, long, room))
+    (λ i below. let lt : i < length front + 1 = omega (arith, below, length-take (length front + 1) image) in
+    get_or-take (length front + 1) image i 0 lt ∙ torn.same i (omega (arith, lt, whole, long)) (omega (arith, lt, inside)) (inl lt) ∙ sym (get_or-take (length front + 1) old i 0 lt)) in
     let before : take (length front + 1) old ≡ kept = ap (take (length front + 1)) parts ∙ take_at kept rest (length front + 1) long in
     sym (take-append-drop (length front + 1) image)
     ∙ ap (λ (l : List ℕ). l ++ drop (length front + 1) image) (same ∙ before)

@@ -1,8 +1,6 @@
 -- One entry, in front of other bytes.
-use Rattle.std.proofs.Common.{◌≡◌, ◌+◌, ◌<◌, ◌≤◌, ◌^◌, ◌∙◌, ℕ, suc, List, [], ◌∷◌, ◌++◌, length, Option, Some, true, refl, sym, ap, arith, length-append}
-use Rattle.std.specs.Prelude.{replicate}
+use Rattle.std.proofs.Common.{◌≡◌, ◌+◌, ◌<◌, ◌≤◌, ◌^◌, ◌∙◌, ℕ, List, ◌∷◌, ◌++◌, length, Some, true, refl, sym, ap, arith, length-append}
 use Rattle.std.specs.Int.{w64, to_be_bytes}
-use Rattle.byte_frame.specs.Exact.{Exact}
 use Rattle.byte_frame.specs.Frames.{Frame, FitsFrame, frame_text}
 use Rattle.byte_frame.specs.FrameReading.{frame_at}
 use Rattle.byte_frame.specs.Reading.{sized_at}

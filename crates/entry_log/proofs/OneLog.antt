@@ -1,9 +1,8 @@
 -- Bytes are a log of one list of bodies at most.
-use Rattle.std.proofs.Common.{◌≡◌, ◌≢◌, ◌⊎◌, inl, inr, ⊎_elim, ◌+◌, ◌<◌, ◌≤◌, ◌∙◌, ℕ, suc, List, [], ◌∷◌, ◌++◌, length, refl, sym, ap, subst, arith, length-append, append_assoc}
+use Rattle.std.proofs.Common.{◌≡◌, ◌≢◌, ◌⊎◌, inl, inr, ◌∙◌, ℕ, suc, List, [], ◌∷◌, ◌++◌, length, refl, sym, ap, arith, length-append, append_assoc}
 use Rattle.std.specs.Prelude.{All}
-use Rattle.std.specs.List.{flat_map}
 use Rattle.entry_log.specs.Laws.{LogsAreOne}
-use Rattle.entry_log.specs.Logs.{FitsBody, IsLog, entries_text, entry_text}
+use Rattle.entry_log.specs.Logs.{FitsBody, entries_text, entry_text}
 use Rattle.entry_log.proofs.Entries.{entry_is_one, entry_is_long}
 
 -- the byte at the gate isn't 1, or there is nothing else at all

@@ -1,6 +1,5 @@
 -- The calls of an append and of a creation, as runs on a disk.
-use Rattle.std.proofs.Common.{◌≡◌, ◌≢◌, ◌⊎◌, inl, inr, ◌+◌, ◌<◌, ◌≤◌, ◌^◌, ◌∙◌, ℕ, List, [], ◌∷◌, ◌++◌, length, drop, max, Option, Some, refl, sym, ap, subst, arith, append_assoc, length-append}
-use Rattle.std.specs.Prelude.{All}
+use Rattle.std.proofs.Common.{◌≡◌, inl, inr, ◌+◌, ◌≤◌, ◌∙◌, ℕ, List, [], ◌∷◌, ◌++◌, length, drop, Option, Some, refl, sym, ap, subst, arith, length-append}
 use Rattle.std.proofs.lemmas.List.Elements.{All-nil}
 use Rattle.disk_image.specs.Changes.{Torn, written}
 use Rattle.disk_image.specs.Crashes.{LeavesOnly, Only}
@@ -52,7 +51,7 @@ module _ {D : Type 0} (moment : D → ℕ) (left_since : D → ℕ → List ℕ 
       → LeavesOnly moment left_since disk disk (IsBeforeOrAfter bodies body)
   unwritten disk gate bodies body only_now keeps =
       begun moment left_since disk (IsBeforeOrAfter bodies body) (λ image left.
-          inl (subst (λ (l : List ℕ). ReadsAs l bodies) (sym (keeps.only image (only_now image left))) (closed_log bodies keeps.byte keeps.rest keeps.closed keeps.fits)))
+      inl (subst (λ (l : List ℕ). ReadsAs l bodies) (sym (keeps.only image (only_now image left))) (closed_log bodies keeps.byte keeps.rest keeps.closed keeps.fits)))
 
   -- the entry was staged
   pub staging : (old mid : D) (gate : ℕ) (bodies : List (List ℕ)) (body staged : List ℕ) → Keeps (content old) (may_leave old) gate bodies → Leaves old mid (gate + 1) staged
@@ -60,9 +59,9 @@ module _ {D : Type 0} (moment : D → ℕ) (left_since : D → ℕ → List ℕ 
   staging old mid gate bodies body staged keeps leaves =
       let file = entries_text bodies ++ keeps.byte ∷ keeps.rest in
       weaker moment left_since old mid (Torn (length file) (gate + 1) (length staged) file) (IsBeforeOrAfter bodies body)
-          (λ image torn. inl (staging_leaves bodies keeps.byte (length staged) keeps.rest image keeps.closed keeps.fits
-              (subst (λ (n : ℕ). Torn (length file) (n + 1) (length staged) file image) keeps.place torn)))
-          (leaves file keeps.told keeps.only)
+      (λ image torn. inl (staging_leaves bodies keeps.byte (length staged) keeps.rest image keeps.closed keeps.fits
+      (subst (λ (n : ℕ). Torn (length file) (n + 1) (length staged) file image) keeps.place torn)))
+      (leaves file keeps.told keeps.only)
 
   -- the staged entry, and the disk
   staged_disk : (old mid : D) (gate : ℕ) (bodies : List (List ℕ)) (body staged : List ℕ) (keeps : Keeps (content old) (may_leave old) gate bodies) → staged ≡ staged_text body → Wrote old mid (gate + 1) staged
@@ -79,11 +78,11 @@ module _ {D : Type 0} (moment : D → ℕ) (left_since : D → ℕ → List ℕ 
       let more = drop (length staged) keeps.rest in
       let file = entries_text bodies ++ keeps.byte ∷ (staged_text body ++ more) in
       joined moment left_since old mid new (IsBeforeOrAfter bodies body)
-          (staging old mid gate bodies body staged keeps first)
-          (weaker moment left_since mid new (Torn (length file) gate 1 file) (IsBeforeOrAfter bodies body)
-              (λ image torn. opening_leaves bodies body more image keeps.byte keeps.fits fit
-                  (subst (λ (n : ℕ). Torn (length file) n 1 file image) keeps.place torn))
-              (second file at_mid.0 at_mid.1))
+      (staging old mid gate bodies body staged keeps first)
+      (weaker moment left_since mid new (Torn (length file) gate 1 file) (IsBeforeOrAfter bodies body)
+      (λ image torn. opening_leaves bodies body more image keeps.byte keeps.fits fit
+      (subst (λ (n : ℕ). Torn (length file) n 1 file image) keeps.place torn))
+      (second file at_mid.0 at_mid.1))
 
   -- the entry is there
   pub appended : (old mid new : D) (gate : ℕ) (bodies : List (List ℕ)) (body staged : List ℕ) → Keeps (content old) (may_leave old) gate bodies → staged ≡ staged_text body → FitsBody body

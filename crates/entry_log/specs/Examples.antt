@@ -1,6 +1,5 @@
 -- A log to compute with.
-use Rattle.std.specs.Prelude.{[], ◌∷◌, ◌++◌, ℕ, List}
-use Rattle.entry_log.specs.Logs.{entries_text}
+use Rattle.std.specs.Prelude.{[], ◌∷◌, ℕ, List}
 
 -- two entries, of two bytes and of none, and a closed gate with a byte behind it
 abbrev pub two_entries : List (List ℕ)

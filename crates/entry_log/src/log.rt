@@ -86,12 +86,7 @@ impl Log {
     }
 
     // Adds an entry, of which `append` says more.
-    fn add<D: Disk>(
-        &mut self,
-        alloc: Global,
-        disk: &mut D,
-        body: &[u8],
-    ) -> Result<(), LogFault>
+    fn add<D: Disk>(&mut self, alloc: Global, disk: &mut D, body: &[u8]) -> Result<(), LogFault>
         ensures acknowledged { OnOk result ((bodies : List (List ℕ)) → Keeps (D.content disk.old) (D.may_leave disk.old) self.old bodies → Keeps (D.content disk.new) (D.may_leave disk.new) self.new (bodies ++ body.now ∷ [])) }
         ensures any_moment { (bodies : List (List ℕ)) → Keeps (D.content disk.old) (D.may_leave disk.old) self.old bodies → LeavesOnly D.moment D.left_since disk.old disk.new (IsBeforeOrAfter bodies body.now) }
         ensures always_log { result ≢ Err LogFault.NotLog }

@@ -9,7 +9,7 @@ returns-clause-left c =
     let start = c.args.self.now.start in
     let calls = calls_until c.args.call c.args.self.now.calls in
     IfOk-weaker c.stopped_behind.result
-        (λ image. image.items ≡ stopped c.args.fill start calls)
-        (λ image. MayLeave start calls image.items)
-        (λ image is. subst (λ (l : List ℕ). MayLeave start calls l) (sym is) (stopped_may_be_left c.args.fill start calls))
-        c.stopped_behind.ensures
+    (λ image. image.items ≡ stopped c.args.fill start calls)
+    (λ image. MayLeave start calls image.items)
+    (λ image is. subst (λ (l : List ℕ). MayLeave start calls l) (sym is) (stopped_may_be_left c.args.fill start calls))
+    c.stopped_behind.ensures

@@ -1,4 +1,4 @@
-use Rattle.std.proofs.Common.{◌≡◌, ◌+◌, ◌∙◌, ℕ, List, [], ◌∷◌, ◌++◌, length, sym, subst, arith}
+use Rattle.std.proofs.Common.{◌≡◌, ◌+◌, ◌∙◌, ℕ, [], ◌∷◌, ◌++◌, length, sym, subst, arith}
 use Rattle.entry_log.specs.Kept.{Keeps}
 use Rattle.entry_log.proofs.Runs.{appended, opening, staging}
 use Rattle.entry_log.proofs.log.Log.add.Goals as goal
