@@ -41,14 +41,18 @@ def processes():
             yield int(number), int(rest[1]), int(rest[19]), sum(map(int, rest[11:15])) / TICKS
 
 
-def kind_of(words):
-    """The crate that a process of the prover works on, and what it does for it."""
+def kind_of(number, words):
+    """The crate that a process of the prover works on, and what it does for it: edits are tried in folders of their own."""
     if "--crate-name" not in words or words[1] not in ("build", "check"):
         return None
     name = words[words.index("--crate-name") + 1]
     if "--test" in words:
         return name, "tests"
-    return name, "proof" if words[1] == "build" else "edits"
+    try:
+        is_edit = os.path.basename(os.readlink(f"/proc/{number}/cwd")).startswith("rt-edit")
+    except OSError:
+        return None
+    return name, "edits" if is_edit else "proof"
 
 
 class Sampler:
@@ -66,7 +70,7 @@ class Sampler:
             if above != self.top:
                 continue
             words = [it.decode(errors="replace") for it in text_of(f"/proc/{number}/cmdline").split(b"\0")]
-            kind = kind_of(words) if words and words[0].endswith("/rattle") else None
+            kind = kind_of(number, words) if words and words[0].endswith("/rattle") else None
             if kind:
                 peak = re.search(rb"VmHWM:\s+(\d+)", text_of(f"/proc/{number}/status"))
                 before = self.seen.get((number, since), (kind, 0, 0))

@@ -46,6 +46,3 @@ pub use reading::{read_product, read_task};
 pub use steps::{base, product};
 pub use task::{FixedTask, FlatWork};
 pub use work::SmallWork;
-
-#[cfg(test)]
-mod tests;

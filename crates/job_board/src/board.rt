@@ -88,13 +88,6 @@ fn query_of(asked: &[QueryInFlight], line: u32) -> Option<QueryInFlight>
     asked.iter().copied().find(|query| query.line == line)
 }
 
-// Whether a query in flight is of this line.
-fn has_line(asked: &[QueryInFlight], line: u32) -> bool
-    ensures { result ≡ list_any (λ q. q.line == line) asked.now }
-{
-    asked.iter().any(|query| query.line == line)
-}
-
 // Whether this attempt of the job is claimed.
 fn has_claim(steps: &[Claim], job: u32, attempt: u32) -> bool
     ensures { result ≡ list_any (λ claim. (claim.job == job) && (claim.attempt == attempt)) steps.now }
@@ -445,13 +438,6 @@ impl<H: Honest> Board<H> {
         has_claim(&self.state.steps, job, attempt)
     }
 
-    /// Whether the query of this line was taken and has no end yet.
-    pub fn is_asked(&self, line: u32) -> bool
-        ensures { (result ≡ true) ↔ IsInFlight (now self.now) line }
-    {
-        has_line(&self.state.asked, line)
-    }
-
     /// Whether the query of this line may end so: it is in flight, and the version of its answer is lawful.
     pub fn may_end(&self, line: u32, out: &QueryOut) -> bool
         ensures { (result ≡ true) ↔ (IsInFlight (now self.now) line × IsFresh (now self.now) (QueryEnds line out.now)) }
@@ -524,13 +510,6 @@ impl<H: Honest> Board<H> {
         ensures few { length result.now ≤ most_segments }
     {
         &self.state.segments
-    }
-
-    /// The version of the last ready set.
-    pub fn version(&self) -> u32
-        ensures { result ≡ number (now self.now) }
-    {
-        self.state.version
     }
 
     /// How many queries were accepted.

@@ -21,6 +21,3 @@ pub use board::Board;
 pub use examples::worked_examples;
 pub use fixed_cube::SmallWork;
 pub use turn::BoardTurn;
-
-#[cfg(test)]
-mod tests;

@@ -9,8 +9,6 @@
 mod examples;
 mod link;
 mod list;
-#[cfg(test)]
-mod tests;
 
 pub use examples::worked_examples;
 pub use list::JobList;

@@ -12,8 +12,6 @@ mod examples;
 mod job;
 mod laws;
 mod state;
-#[cfg(test)]
-mod tests;
 
 pub use examples::worked_examples;
 pub use job::Job;

@@ -10,13 +10,12 @@ ghost use Rattle.step_codec.specs.Reading.{all_loaded_at, has_repeat};
 
 use crate::layout::{Layout, TableColumns};
 use byte_frame::{FieldReader, ReadError, Reads, read_each};
+pub use cube_val::ROW_LIMIT;
 use cube_val::{Row, Table, TableSet};
 use std::alloc::{AllocError, Global};
 use std::sync::Arc;
 use step_fields::{put_rows, read_rows};
 use table_reader::first_repeated;
-
-pub use cube_val::ROW_LIMIT;
 
 // Whether a row repeats the key of an earlier one.
 fn has_repeat(alloc: Global, key: &[usize], rows: &[Row]) -> Result<bool, AllocError>
