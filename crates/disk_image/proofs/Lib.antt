@@ -1,4 +1,4 @@
 mod Records
 mod Images
 mod Calls
-pub mod Moments
+pub mod CrashConditions

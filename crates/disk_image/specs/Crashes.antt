@@ -1,27 +1,28 @@
--- What a crash may leave, before a call and after it. An image is what a crash leaves of a file.
+-- How the crash images of a file change over calls. A crash image is the bytes that a loss of power may leave of it.
 use Rattle.std.specs.Prelude.{◌≡◌, ◌⊎◌, ◌≤◌, ℕ, List}
 
--- each image after is made of an image before by this
-abbrev pub Follows : (List ℕ → List ℕ → Type 0) → (List ℕ → Type 0) → (List ℕ → Type 0) → Type 0
-Follows made before after = (image : List ℕ) → after image → (earlier : List ℕ) × before earlier × made earlier image
+-- The bytes are durable: a crash leaves them and nothing else.
+abbrev pub IsDurable : List ℕ → (List ℕ → Type 0) → Type 0
+IsDurable bytes crash_image = (left : List ℕ) → crash_image left → left ≡ bytes
 
--- each image after is an image before
-abbrev pub Within : (List ℕ → Type 0) → (List ℕ → Type 0) → Type 0
-Within before after = (image : List ℕ) → after image → before image
+-- A call adds no crash image.
+abbrev pub NoNewImage : (List ℕ → Type 0) → (List ℕ → Type 0) → Type 0
+NoNewImage old_image new_image = (left : List ℕ) → new_image left → old_image left
 
--- a crash leaves these bytes and nothing else
-abbrev pub Only : List ℕ → (List ℕ → Type 0) → Type 0
-Only bytes may_leave = (image : List ℕ) → may_leave image → image ≡ bytes
+-- A call makes its crash images, by this relation, of those that there were.
+abbrev pub ImagesBy : (List ℕ → List ℕ → Type 0) → (List ℕ → Type 0) → (List ℕ → Type 0) → Type 0
+ImagesBy change old_image new_image = (left : List ℕ) → new_image left → (source : List ℕ) × old_image source × change source left
 
--- Time goes on over a call: the images since an earlier moment are those from before the call and those of now.
-pub record Elapses (before now : ℕ) (left_before left_now : ℕ → List ℕ → Type 0) (may_leave : List ℕ → Type 0) : Type 0 where
-  pub later : before ≤ now
-  pub kept : (t : ℕ) (image : List ℕ) → t ≤ before → left_before t image → left_now t image
-  pub nothing_else : (t : ℕ) (image : List ℕ) → t ≤ before → left_now t image → left_before t image ⊎ may_leave image
+-- What a call does to the crash images since a time: it forgets none, and each that it adds is one of the file as the
+-- call leaves it. The clock doesn't go back.
+pub record PassesTime (old_clock new_clock : ℕ) (old_since new_since : ℕ → List ℕ → Type 0) (new_image : List ℕ → Type 0) : Type 0 where
+  pub clock : old_clock ≤ new_clock
+  pub remembers : (time : ℕ) (left : List ℕ) → time ≤ old_clock → old_since time left → new_since time left
+  pub adds : (time : ℕ) (left : List ℕ) → time ≤ old_clock → new_since time left → old_since time left ⊎ new_image left
 
--- A crash at any moment from the old state on, inside a call or between two, leaves what has P; and so for a run
--- that began earlier.
-pub record LeavesOnly {D : Type 0} (moment : D → ℕ) (left_since : D → ℕ → List ℕ → Type 0) (old new : D) (P : List ℕ → Type 0) : Type 0 where
-  pub later : moment old ≤ moment new
-  pub each : (image : List ℕ) → left_since new (moment old) image → P image
-  pub before : (t : ℕ) (image : List ℕ) → t ≤ moment old → left_since new t image → left_since old t image ⊎ P image
+-- The crash condition of a run of calls: whenever power is lost in it, what is left meets the condition. So does each
+-- crash image that the run adds to those since an earlier time.
+pub record CrashCondition {D : Type 0} (clock : D → ℕ) (image_since : D → ℕ → List ℕ → Type 0) (old new : D) (Condition : List ℕ → Type 0) : Type 0 where
+  pub clock_on : clock old ≤ clock new
+  pub meets : (left : List ℕ) → image_since new (clock old) left → Condition left
+  pub adds : (time : ℕ) (left : List ℕ) → time ≤ clock old → image_since new time left → image_since old time left ⊎ Condition left

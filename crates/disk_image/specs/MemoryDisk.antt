@@ -58,23 +58,23 @@ MayTurnInto end (Writes at bytes) old new = Torn end at (length bytes) old new
 MayTurnInto end (Cuts n) old new = CutShort n old new
 
 -- A crash after the calls may leave this. A refused change counts as made, and a sync keeps what is read.
-abbrev pub MayLeave : List ℕ → List DiskCall → List ℕ → Type 0
-MayLeave start [] image = image ≡ start
-MayLeave start (Looked ∷ calls) image = MayLeave start calls image
-MayLeave start (Synced ∷ calls) image = image ≡ reads_as start calls
-MayLeave start (Changed change ∷ calls) image = (earlier : List ℕ) × MayLeave start calls earlier × MayTurnInto (length (reads_as start calls)) change earlier image
-MayLeave start (Refused change ∷ calls) image = (earlier : List ℕ) × MayLeave start calls earlier × MayTurnInto (length (reads_as start calls)) change earlier image
+abbrev pub CrashImage : List ℕ → List DiskCall → List ℕ → Type 0
+CrashImage start [] image = image ≡ start
+CrashImage start (Looked ∷ calls) image = CrashImage start calls image
+CrashImage start (Synced ∷ calls) image = image ≡ reads_as start calls
+CrashImage start (Changed change ∷ calls) image = (earlier : List ℕ) × CrashImage start calls earlier × MayTurnInto (length (reads_as start calls)) change earlier image
+CrashImage start (Refused change ∷ calls) image = (earlier : List ℕ) × CrashImage start calls earlier × MayTurnInto (length (reads_as start calls)) change earlier image
 
 -- the first so many of the calls
 abbrev pub calls_until : ℕ → List DiskCall → List DiskCall
 calls_until n calls = drop (length calls - n) calls
 
--- a crash at some moment from t on may have left this; a moment is how many calls were made
-pub record LeftSince (start : List ℕ) (calls : List DiskCall) (t : ℕ) (image : List ℕ) : Type 0 where
-  pub moment : ℕ
-  pub since : t ≤ moment
-  pub so_far : moment ≤ length calls
-  pub left : MayLeave start (calls_until moment calls) image
+-- a crash image of the file behind a count of calls that is t or more
+pub record CrashImageSince (start : List ℕ) (calls : List DiskCall) (t : ℕ) (image : List ℕ) : Type 0 where
+  pub count : ℕ
+  pub since : t ≤ count
+  pub so_far : count ≤ length calls
+  pub left : CrashImage start (calls_until count calls) image
 
 -- ---- what a stop leaves
 
@@ -99,17 +99,17 @@ stopped fill start (call ∷ calls) = stopped_after fill call (reads_as start ca
 
 -- ---- the same of a state
 
-abbrev pub moment_of : DiskState → ℕ
-moment_of state = length state.calls
+abbrev pub clock_of : DiskState → ℕ
+clock_of state = length state.calls
 
 abbrev pub content_of : DiskState → List ℕ
 content_of state = reads_as state.start state.calls
 
-abbrev pub MayLeaveNow : DiskState → List ℕ → Type 0
-MayLeaveNow state image = MayLeave state.start state.calls image
+abbrev pub CrashImageNow : DiskState → List ℕ → Type 0
+CrashImageNow state image = CrashImage state.start state.calls image
 
-abbrev pub LeftSinceThen : DiskState → ℕ → List ℕ → Type 0
-LeftSinceThen state t image = LeftSince state.start state.calls t image
+abbrev pub CrashImageSinceThen : DiskState → ℕ → List ℕ → Type 0
+CrashImageSinceThen state t image = CrashImageSince state.start state.calls t image
 
 -- A call was recorded as made, or as refused where it has the number of a call that fails; one for which no memory was
 -- found has its number and isn't recorded.

@@ -1,9 +1,9 @@
--- What is read is one of the images, and the moment now is one of those since an earlier one.
+-- What is read is a crash image, and the images of now are among those since an earlier time.
 use Rattle.std.specs.Prelude.{◌≡◌, ◌<◌, ◌≤◌, ◌-◌, ◌+◌, ◌++◌, ℕ, List, [], ◌∷◌, length, take, drop, replicate, max, Some, refl}
 use Rattle.std.proofs.Common.{arith, ⊎_elim, sym, ◌∙◌, ap, subst, get_or, length-append, length-take, length-drop}
 use Rattle.std.proofs.lemmas.List.{length-replicate, get_or_append_left, get_or-append_right, get_or-take, get_or-drop}
 use Rattle.disk_image.specs.Changes.{written_over, Torn, CutShort}
-use Rattle.disk_image.specs.MemoryDisk.{FileChange, Writes, Cuts, DiskCall, Looked, Synced, Changed, Refused, MayTurnInto, MayLeave, LeftSince, changed, reads_as, calls_until}
+use Rattle.disk_image.specs.MemoryDisk.{FileChange, Writes, Cuts, DiskCall, Looked, Synced, Changed, Refused, MayTurnInto, CrashImage, CrashImageSince, changed, reads_as, calls_until}
 
 -- ---- a change that was made whole, and one that was not made
 
@@ -62,31 +62,31 @@ unmade_may_be_left end (Cuts n) file = record { same = λ i inside before. refl;
 -- ---- the laws of a disk
 
 -- what is read is one of the images
-pub reading_may_be_left : (start : List ℕ) (calls : List DiskCall) → MayLeave start calls (reads_as start calls)
-reading_may_be_left start [] = refl
-reading_may_be_left start (Looked ∷ calls) = reading_may_be_left start calls
-reading_may_be_left start (Synced ∷ calls) = refl
-reading_may_be_left start (Changed change ∷ calls) = (reads_as start calls, reading_may_be_left start calls, made_may_be_left (length (reads_as start calls)) change (reads_as start calls))
-reading_may_be_left start (Refused change ∷ calls) = (reads_as start calls, reading_may_be_left start calls, unmade_may_be_left (length (reads_as start calls)) change (reads_as start calls))
+pub reading_is_image : (start : List ℕ) (calls : List DiskCall) → CrashImage start calls (reads_as start calls)
+reading_is_image start [] = refl
+reading_is_image start (Looked ∷ calls) = reading_is_image start calls
+reading_is_image start (Synced ∷ calls) = refl
+reading_is_image start (Changed change ∷ calls) = (reads_as start calls, reading_is_image start calls, made_may_be_left (length (reads_as start calls)) change (reads_as start calls))
+reading_is_image start (Refused change ∷ calls) = (reads_as start calls, reading_is_image start calls, unmade_may_be_left (length (reads_as start calls)) change (reads_as start calls))
 
-pub read_may_be_left : (start : List ℕ) (calls : List DiskCall) (bytes : List ℕ) → Some (reads_as start calls) ≡ Some bytes → MayLeave start calls bytes
-read_may_be_left start calls bytes is =
+pub content_is_image : (start : List ℕ) (calls : List DiskCall) (bytes : List ℕ) → Some (reads_as start calls) ≡ Some bytes → CrashImage start calls bytes
+content_is_image start calls bytes is =
     let same : reads_as start calls ≡ bytes = cc in
-    subst (λ (b : List ℕ). MayLeave start calls b) same (reading_may_be_left start calls)
+    subst (λ (b : List ℕ). CrashImage start calls b) same (reading_is_image start calls)
 
 all_calls : (calls : List DiskCall) (n : ℕ) → length calls ≤ n → calls_until n calls ≡ calls
 all_calls calls n all =
     let none : length calls - n ≡ 0 = omega arith in
     ap (λ (k : ℕ). drop k calls) none
 
-pub now_is_since : (start : List ℕ) (calls : List DiskCall) (t : ℕ) (image : List ℕ) → t ≤ length calls → MayLeave start calls image → LeftSince start calls t image
+pub now_is_since : (start : List ℕ) (calls : List DiskCall) (t : ℕ) (image : List ℕ) → t ≤ length calls → CrashImage start calls image → CrashImageSince start calls t image
 now_is_since start calls t image earlier left = record {
-  moment = length calls;
+  count = length calls;
   since = earlier;
   so_far = omega arith;
-  left = subst (λ (c : List DiskCall). MayLeave start c image) (sym (all_calls calls (length calls) (omega arith))) left;
+  left = subst (λ (c : List DiskCall). CrashImage start c image) (sym (all_calls calls (length calls) (omega arith))) left;
 }
 
-pub since_now_is_now : (start : List ℕ) (calls : List DiskCall) (image : List ℕ) → LeftSince start calls (length calls) image → MayLeave start calls image
+pub since_now_is_now : (start : List ℕ) (calls : List DiskCall) (image : List ℕ) → CrashImageSince start calls (length calls) image → CrashImage start calls image
 since_now_is_now start calls image since =
-    subst (λ (c : List DiskCall). MayLeave start c image) (all_calls calls since.moment since.since) since.left
+    subst (λ (c : List DiskCall). CrashImage start c image) (all_calls calls since.count since.since) since.left

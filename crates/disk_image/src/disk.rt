@@ -3,25 +3,25 @@
 ghost use Rattle.std.specs.Prelude.{◌≡◌, ◌≤◌, ◌<◌, ◌^◌, ℕ, List, Option, Some, length, take, drop, is_some, option_map, IfSome, IfOk, OnOk, IsErrOf};
 ghost use Rattle.outside.specs.Counts.{Rose};
 ghost use Rattle.disk_image.specs.Changes.{CutShort, Torn, written};
-ghost use Rattle.disk_image.specs.Crashes.{Elapses, Follows, Only, Within};
+ghost use Rattle.disk_image.specs.Crashes.{PassesTime, ImagesBy, IsDurable, NoNewImage};
 
 use crate::fault::DiskFault;
 use std::alloc::Global;
 
-/// A file on a disk that may lose power at any moment. What is written is surely there only once a sync has answered.
+/// A file on a disk whose power may go at any time. What was written is durable once a sync has answered.
 /// Want of memory may stand in place of every answer.
 pub trait Disk {
-    // The bytes that a read gives, where they are told.
+    // What a read gives, where the disk tells it.
     ghost content: { Self → Option (List ℕ) };
 
-    // What a crash at this moment may leave.
-    ghost may_leave: { Self → List ℕ → Type 0 };
+    // Its crash images: what a loss of power right now may leave.
+    ghost crash_image: { Self → List ℕ → Type 0 };
 
-    // The moment, as a number that doesn't fall.
-    ghost moment: { Self → ℕ };
+    // A clock that doesn't go back.
+    ghost clock: { Self → ℕ };
 
-    // What a crash at some moment from that one on may have left, inside a call or between two.
-    ghost left_since: { Self → ℕ → List ℕ → Type 0 };
+    // The crash images since that time: of now, of each call in between, and of all between calls.
+    ghost image_since: { Self → ℕ → List ℕ → Type 0 };
 
     // How many calls failed.
     ghost faults: { Self → ℕ };
@@ -30,8 +30,8 @@ pub trait Disk {
     fn len(&mut self) -> Result<u64, DiskFault>
         ensures len { IfOk result (λ n. IfSome (content self.old) (λ bytes. n ≡ length bytes)) }
         ensures same { content self.new ≡ content self.old }
-        ensures images { Within (may_leave self.old) (may_leave self.new) }
-        ensures time { Elapses (moment self.old) (moment self.new) (left_since self.old) (left_since self.new) (may_leave self.new) }
+        ensures images { NoNewImage (crash_image self.old) (crash_image self.new) }
+        ensures time { PassesTime (clock self.old) (clock self.new) (image_since self.old) (image_since self.new) (crash_image self.new) }
         ensures failed { IsErrOf result DiskFault.Failed → Rose (faults self.old) (faults self.new) }
         ensures faults { faults self.old ≤ faults self.new }
         ensures bounded { faults self.new < 2 ^ 64 };
@@ -41,8 +41,8 @@ pub trait Disk {
         ensures bytes { IfOk result (λ part. IfSome (content self.old) (λ bytes. part.items ≡ take n (drop at bytes))) }
         ensures limited { IfOk result (λ part. length part.items ≤ n) }
         ensures same { content self.new ≡ content self.old }
-        ensures images { Within (may_leave self.old) (may_leave self.new) }
-        ensures time { Elapses (moment self.old) (moment self.new) (left_since self.old) (left_since self.new) (may_leave self.new) }
+        ensures images { NoNewImage (crash_image self.old) (crash_image self.new) }
+        ensures time { PassesTime (clock self.old) (clock self.new) (image_since self.old) (image_since self.new) (crash_image self.new) }
         ensures failed { IsErrOf result DiskFault.Failed → Rose (faults self.old) (faults self.new) }
         ensures faults { faults self.old ≤ faults self.new }
         ensures bounded { faults self.new < 2 ^ 64 };
@@ -52,9 +52,9 @@ pub trait Disk {
     fn write_at(&mut self, at: u64, bytes: &[u8]) -> Result<(), DiskFault>
         ensures written { OnOk result (content self.new ≡ option_map (written at bytes.now) (content self.old)) }
         ensures told { is_some (content self.new) ≡ is_some (content self.old) }
-        ensures torn { IfSome (content self.old) (λ file. Follows (Torn (length file) at (length bytes.now)) (may_leave self.old) (may_leave self.new)) }
-        ensures memory { IsErrOf result DiskFault.Memory → (content self.new ≡ content self.old) × Within (may_leave self.old) (may_leave self.new) }
-        ensures time { Elapses (moment self.old) (moment self.new) (left_since self.old) (left_since self.new) (may_leave self.new) }
+        ensures torn { IfSome (content self.old) (λ file. ImagesBy (Torn (length file) at (length bytes.now)) (crash_image self.old) (crash_image self.new)) }
+        ensures memory { IsErrOf result DiskFault.Memory → (content self.new ≡ content self.old) × NoNewImage (crash_image self.old) (crash_image self.new) }
+        ensures time { PassesTime (clock self.old) (clock self.new) (image_since self.old) (image_since self.new) (crash_image self.new) }
         ensures failed { IsErrOf result DiskFault.Failed → Rose (faults self.old) (faults self.new) }
         ensures faults { faults self.old ≤ faults self.new }
         ensures bounded { faults self.new < 2 ^ 64 };
@@ -64,29 +64,29 @@ pub trait Disk {
     fn cut(&mut self, len: u64) -> Result<(), DiskFault>
         ensures cut { OnOk result (content self.new ≡ option_map (take len) (content self.old)) }
         ensures told { is_some (content self.new) ≡ is_some (content self.old) }
-        ensures torn { IfSome (content self.old) (λ file. Follows (CutShort len) (may_leave self.old) (may_leave self.new)) }
-        ensures memory { IsErrOf result DiskFault.Memory → (content self.new ≡ content self.old) × Within (may_leave self.old) (may_leave self.new) }
-        ensures time { Elapses (moment self.old) (moment self.new) (left_since self.old) (left_since self.new) (may_leave self.new) }
+        ensures torn { IfSome (content self.old) (λ file. ImagesBy (CutShort len) (crash_image self.old) (crash_image self.new)) }
+        ensures memory { IsErrOf result DiskFault.Memory → (content self.new ≡ content self.old) × NoNewImage (crash_image self.old) (crash_image self.new) }
+        ensures time { PassesTime (clock self.old) (clock self.new) (image_since self.old) (image_since self.new) (crash_image self.new) }
         ensures failed { IsErrOf result DiskFault.Failed → Rose (faults self.old) (faults self.new) }
         ensures faults { faults self.old ≤ faults self.new }
         ensures bounded { faults self.new < 2 ^ 64 };
 
     /// Keeps what was written: after it a crash leaves what a read gives.
     fn sync(&mut self) -> Result<(), DiskFault>
-        ensures kept { OnOk result (IfSome (content self.old) (λ bytes. Only bytes (may_leave self.new))) }
+        ensures kept { OnOk result (IfSome (content self.old) (λ bytes. IsDurable bytes (crash_image self.new))) }
         ensures same { content self.new ≡ content self.old }
-        ensures images { Within (may_leave self.old) (may_leave self.new) }
-        ensures time { Elapses (moment self.old) (moment self.new) (left_since self.old) (left_since self.new) (may_leave self.new) }
+        ensures images { NoNewImage (crash_image self.old) (crash_image self.new) }
+        ensures time { PassesTime (clock self.old) (clock self.new) (image_since self.old) (image_since self.new) (crash_image self.new) }
         ensures failed { IsErrOf result DiskFault.Failed → Rose (faults self.old) (faults self.new) }
         ensures faults { faults self.old ≤ faults self.new }
         ensures bounded { faults self.new < 2 ^ 64 };
 
-    // What is read is one of the images that a crash may leave.
-    ghost reads: { (disk : Self) (bytes : List ℕ) → content disk ≡ Some bytes → may_leave disk bytes };
+    // What a read gives is a crash image.
+    ghost content_is_image: { (disk : Self) (bytes : List ℕ) → content disk ≡ Some bytes → crash_image disk bytes };
 
-    // This moment is one of those since an earlier one.
-    ghost counts_now: { (disk : Self) (t : ℕ) (image : List ℕ) → t ≤ moment disk → may_leave disk image → left_since disk t image };
+    // The crash images of now are among those since any earlier time.
+    ghost now_is_since: { (disk : Self) (t : ℕ) (image : List ℕ) → t ≤ clock disk → crash_image disk image → image_since disk t image };
 
-    // Since this moment there is no other.
-    ghost only_now: { (disk : Self) (image : List ℕ) → left_since disk (moment disk) image → may_leave disk image };
+    // Since now there are no others.
+    ghost since_now_is_now: { (disk : Self) (image : List ℕ) → image_since disk (clock disk) image → crash_image disk image };
 }

@@ -3,7 +3,7 @@
 ghost use Rattle.std.specs.Prelude.{◌≡◌, ◌<◌, ◌^◌, [], ◌∷◌, ℕ, List};
 ghost use Rattle.disk_image.specs.Changes.{written};
 ghost use Rattle.disk_image.specs.Examples.{behind_the_end, cut_short, kept, over_the_end, written_twice};
-ghost use Rattle.disk_image.specs.MemoryDisk.{MayLeave, calls_until, reads_as, stopped};
+ghost use Rattle.disk_image.specs.MemoryDisk.{CrashImage, calls_until, reads_as, stopped};
 ghost use Rattle.disk_image.specs.declared.record.Fill.TheVariants.{New, Old, Ones};
 
 /// What a read gives, and what a stop leaves.
@@ -27,9 +27,9 @@ pub fn worked_examples()
 /// What a crash may leave.
 pub fn worked_crashes()
     // Behind the end, and past it where the write begins later, any bytes may be left; what was there stays.
-    ensures any { (byte : ℕ) → MayLeave (7 ∷ []) over_the_end (7 ∷ byte ∷ []) }
-    ensures none { MayLeave (7 ∷ []) over_the_end (7 ∷ []) }
-    ensures gap { (first second : ℕ) → MayLeave (7 ∷ []) behind_the_end (7 ∷ first ∷ second ∷ []) }
-    ensures stays { (byte : ℕ) (more : List ℕ) → MayLeave (7 ∷ []) over_the_end (byte ∷ more) → byte ≡ 7 }
-    ensures kept { (image : List ℕ) → MayLeave (7 ∷ []) kept image → image ≡ 7 ∷ 2 ∷ [] }
+    ensures any { (byte : ℕ) → CrashImage (7 ∷ []) over_the_end (7 ∷ byte ∷ []) }
+    ensures none { CrashImage (7 ∷ []) over_the_end (7 ∷ []) }
+    ensures gap { (first second : ℕ) → CrashImage (7 ∷ []) behind_the_end (7 ∷ first ∷ second ∷ []) }
+    ensures stays { (byte : ℕ) (more : List ℕ) → CrashImage (7 ∷ []) over_the_end (byte ∷ more) → byte ≡ 7 }
+    ensures kept { (image : List ℕ) → CrashImage (7 ∷ []) kept image → image ≡ 7 ∷ 2 ∷ [] }
 {}

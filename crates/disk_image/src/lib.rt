@@ -1,9 +1,10 @@
-//! A disk that may lose power at any moment: what a read gives, and what a crash may leave.
+//! A file on a disk whose power may go at any time: what a read gives, and its crash images, the bytes that a loss of
+//! power may leave.
 //!
-//! An image is what a crash leaves of the file. A write that isn't kept yet may leave any bytes in its range and past the
-//! file's old end, a cut any length down to the new one; a sync that answered Ok leaves what a read gives, and nothing
-//! else. A disk also tells what a crash may have left at any moment since an earlier one, inside a call or between two.
-//! A call fails only where the count of faults rose. This crate stands on `outside`, whose counts it shares.
+//! Until a sync, a write may leave any bytes in its range and past the file's old end, and a cut any length down to the
+//! new one; a sync that answered Ok makes what a read gives durable. A disk also has the crash images since an earlier
+//! time, those of each call in between too. A call fails only where the count of faults rose. This crate stands on
+//! `outside`, whose counts it shares.
 #![tactic(auto)]
 
 mod disk;

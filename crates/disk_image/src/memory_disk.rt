@@ -4,7 +4,7 @@ ghost use Rattle.std.specs.Prelude.{◌≡◌, ◌≤◌, ◌<◌, ◌^◌, ◌�
 ghost use Rattle.outside.specs.Counts.{Rose, raised};
 ghost use Rattle.outside.specs.Numbering.{NextFails, after_call};
 ghost use Rattle.disk_image.specs.Changes.{CutShort, Torn, written};
-ghost use Rattle.disk_image.specs.Crashes.{Elapses, Follows, Only, Within};
+ghost use Rattle.disk_image.specs.Crashes.{PassesTime, ImagesBy, IsDurable, NoNewImage};
 
 use crate::disk::Disk;
 use crate::fault::DiskFault;
@@ -37,7 +37,7 @@ impl Model for MemoryDisk {
 }
 
 impl MemoryDisk {
-    ghost use Rattle.disk_image.specs.MemoryDisk.{Changed, IsCalled, IsRefused, IsSettled, Looked, MayLeave, Refused, Synced, Writes, call_of, calls_until, change_of, content_of, reads_as, stopped};
+    ghost use Rattle.disk_image.specs.MemoryDisk.{Changed, IsCalled, IsRefused, IsSettled, Looked, CrashImage, Refused, Synced, Writes, call_of, calls_until, change_of, content_of, reads_as, stopped};
 
     /// A disk with these bytes, all of them kept, whose calls with these numbers fail; the first has the number 1.
     pub fn new(alloc: Global, bytes: Vec<u8>, failing: Vec<u32>) -> MemoryDisk
@@ -84,7 +84,7 @@ impl MemoryDisk {
         ensures stopped { IfOk result (λ image. image.items ≡ stopped fill self.now.start (calls_until call self.now.calls)) }
 
         // It is one of the images that a crash there may leave.
-        ensures left { IfOk result (λ image. MayLeave self.now.start (calls_until call self.now.calls) image.items) }
+        ensures left { IfOk result (λ image. CrashImage self.now.start (calls_until call self.now.calls) image.items) }
     {
         self.stopped_behind(call, fill)
     }
@@ -207,24 +207,24 @@ impl MemoryDisk {
 }
 
 impl Disk for MemoryDisk {
-    ghost use Rattle.disk_image.specs.MemoryDisk.{Changed, Cuts, IsCalled, LeftSinceThen, Looked, MayLeaveNow, Refused, Synced, Writes, content_of, moment_of};
-    ghost use Rattle.disk_image.specs.MemoryLaws.{now_is_since, read_may_be_left, since_now_is_now};
+    ghost use Rattle.disk_image.specs.MemoryDisk.{Changed, Cuts, IsCalled, CrashImageSinceThen, Looked, CrashImageNow, Refused, Synced, Writes, content_of, clock_of};
+    ghost use Rattle.disk_image.specs.MemoryLaws.{now_is_since, content_is_image, since_now_is_now};
 
     ghost content = { λ d. Some (content_of d) };
 
-    ghost may_leave = { λ d. MayLeaveNow d };
+    ghost crash_image = { λ d. CrashImageNow d };
 
-    ghost moment = { λ d. moment_of d };
+    ghost clock = { λ d. clock_of d };
 
-    ghost left_since = { λ d. LeftSinceThen d };
+    ghost image_since = { λ d. CrashImageSinceThen d };
 
     ghost faults = { λ d. d.faults };
 
-    ghost reads = { λ d bytes is. read_may_be_left d.start d.calls bytes is };
+    ghost content_is_image = { λ d bytes is. content_is_image d.start d.calls bytes is };
 
-    ghost counts_now = { λ d t image earlier left. now_is_since d.start d.calls t image earlier left };
+    ghost now_is_since = { λ d t image earlier left. now_is_since d.start d.calls t image earlier left };
 
-    ghost only_now = { λ d image since. since_now_is_now d.start d.calls image since };
+    ghost since_now_is_now = { λ d image since. since_now_is_now d.start d.calls image since };
 
     fn len(&mut self) -> Result<u64, DiskFault>
         ensures len { IfOk result (λ n. n ≡ length (content_of self.old)) }
@@ -233,8 +233,8 @@ impl Disk for MemoryDisk {
         ensures called { IsCalled Looked Looked result self.old self.new }
 
         ensures same { Some (content_of self.new) ≡ Some (content_of self.old) }
-        ensures images { Within (MayLeaveNow self.old) (MayLeaveNow self.new) }
-        ensures time { Elapses (moment_of self.old) (moment_of self.new) (LeftSinceThen self.old) (LeftSinceThen self.new) (MayLeaveNow self.new) }
+        ensures images { NoNewImage (CrashImageNow self.old) (CrashImageNow self.new) }
+        ensures time { PassesTime (clock_of self.old) (clock_of self.new) (CrashImageSinceThen self.old) (CrashImageSinceThen self.new) (CrashImageNow self.new) }
         ensures failed { IsErrOf result DiskFault.Failed → Rose self.old.faults self.new.faults }
         ensures faults { self.old.faults ≤ self.new.faults }
         ensures bounded { self.new.faults < 2 ^ 64 }
@@ -247,8 +247,8 @@ impl Disk for MemoryDisk {
         ensures limited { IfOk result (λ part. length part.items ≤ n) }
         ensures called { IsCalled Looked Looked result self.old self.new }
         ensures same { Some (content_of self.new) ≡ Some (content_of self.old) }
-        ensures images { Within (MayLeaveNow self.old) (MayLeaveNow self.new) }
-        ensures time { Elapses (moment_of self.old) (moment_of self.new) (LeftSinceThen self.old) (LeftSinceThen self.new) (MayLeaveNow self.new) }
+        ensures images { NoNewImage (CrashImageNow self.old) (CrashImageNow self.new) }
+        ensures time { PassesTime (clock_of self.old) (clock_of self.new) (CrashImageSinceThen self.old) (CrashImageSinceThen self.new) (CrashImageNow self.new) }
         ensures failed { IsErrOf result DiskFault.Failed → Rose self.old.faults self.new.faults }
         ensures faults { self.old.faults ≤ self.new.faults }
         ensures bounded { self.new.faults < 2 ^ 64 }
@@ -259,9 +259,9 @@ impl Disk for MemoryDisk {
     fn write_at(&mut self, at: u64, bytes: &[u8]) -> Result<(), DiskFault>
         ensures written { OnOk result (Some (content_of self.new) ≡ Some (written at bytes.now (content_of self.old))) }
         ensures called { IsCalled (Changed (Writes at bytes.now)) (Refused (Writes at bytes.now)) result self.old self.new }
-        ensures torn { Follows (Torn (length (content_of self.old)) at (length bytes.now)) (MayLeaveNow self.old) (MayLeaveNow self.new) }
-        ensures memory { IsErrOf result DiskFault.Memory → (Some (content_of self.new) ≡ Some (content_of self.old)) × Within (MayLeaveNow self.old) (MayLeaveNow self.new) }
-        ensures time { Elapses (moment_of self.old) (moment_of self.new) (LeftSinceThen self.old) (LeftSinceThen self.new) (MayLeaveNow self.new) }
+        ensures torn { ImagesBy (Torn (length (content_of self.old)) at (length bytes.now)) (CrashImageNow self.old) (CrashImageNow self.new) }
+        ensures memory { IsErrOf result DiskFault.Memory → (Some (content_of self.new) ≡ Some (content_of self.old)) × NoNewImage (CrashImageNow self.old) (CrashImageNow self.new) }
+        ensures time { PassesTime (clock_of self.old) (clock_of self.new) (CrashImageSinceThen self.old) (CrashImageSinceThen self.new) (CrashImageNow self.new) }
         ensures failed { IsErrOf result DiskFault.Failed → Rose self.old.faults self.new.faults }
         ensures faults { self.old.faults ≤ self.new.faults }
         ensures bounded { self.new.faults < 2 ^ 64 }
@@ -272,9 +272,9 @@ impl Disk for MemoryDisk {
     fn cut(&mut self, len: u64) -> Result<(), DiskFault>
         ensures cut { OnOk result (Some (content_of self.new) ≡ Some (take len (content_of self.old))) }
         ensures called { IsCalled (Changed (Cuts len)) (Refused (Cuts len)) result self.old self.new }
-        ensures torn { Follows (CutShort len) (MayLeaveNow self.old) (MayLeaveNow self.new) }
-        ensures memory { IsErrOf result DiskFault.Memory → (Some (content_of self.new) ≡ Some (content_of self.old)) × Within (MayLeaveNow self.old) (MayLeaveNow self.new) }
-        ensures time { Elapses (moment_of self.old) (moment_of self.new) (LeftSinceThen self.old) (LeftSinceThen self.new) (MayLeaveNow self.new) }
+        ensures torn { ImagesBy (CutShort len) (CrashImageNow self.old) (CrashImageNow self.new) }
+        ensures memory { IsErrOf result DiskFault.Memory → (Some (content_of self.new) ≡ Some (content_of self.old)) × NoNewImage (CrashImageNow self.old) (CrashImageNow self.new) }
+        ensures time { PassesTime (clock_of self.old) (clock_of self.new) (CrashImageSinceThen self.old) (CrashImageSinceThen self.new) (CrashImageNow self.new) }
         ensures failed { IsErrOf result DiskFault.Failed → Rose self.old.faults self.new.faults }
         ensures faults { self.old.faults ≤ self.new.faults }
         ensures bounded { self.new.faults < 2 ^ 64 }
@@ -283,11 +283,11 @@ impl Disk for MemoryDisk {
     }
 
     fn sync(&mut self) -> Result<(), DiskFault>
-        ensures kept { OnOk result (Only (content_of self.old) (MayLeaveNow self.new)) }
+        ensures kept { OnOk result (IsDurable (content_of self.old) (CrashImageNow self.new)) }
         ensures called { IsCalled Synced Looked result self.old self.new }
         ensures same { Some (content_of self.new) ≡ Some (content_of self.old) }
-        ensures images { Within (MayLeaveNow self.old) (MayLeaveNow self.new) }
-        ensures time { Elapses (moment_of self.old) (moment_of self.new) (LeftSinceThen self.old) (LeftSinceThen self.new) (MayLeaveNow self.new) }
+        ensures images { NoNewImage (CrashImageNow self.old) (CrashImageNow self.new) }
+        ensures time { PassesTime (clock_of self.old) (clock_of self.new) (CrashImageSinceThen self.old) (CrashImageSinceThen self.new) (CrashImageNow self.new) }
         ensures failed { IsErrOf result DiskFault.Failed → Rose self.old.faults self.new.faults }
         ensures faults { self.old.faults ≤ self.new.faults }
         ensures bounded { self.new.faults < 2 ^ 64 }

@@ -9,7 +9,7 @@ use Rattle.byte_frame.specs.Frames.{frame_text}
 use Rattle.byte_frame.specs.Spelling.{sized_text}
 use Rattle.disk_image.specs.Changes.{Torn}
 use Rattle.entry_log.specs.Kept.{IsBeforeOrAfter}
-use Rattle.entry_log.specs.Logs.{FitsBody, ReadsAs, entries_text, entry_frame, entry_text}
+use Rattle.entry_log.specs.Logs.{FitsBody, HasEntries, entries_text, entry_frame, entry_text}
 use Rattle.entry_log.proofs.Changes.{torn_at_gate, torn_behind}
 
 -- what stands behind an open gate, with a closed gate behind it
@@ -36,22 +36,22 @@ pub All-push : (bodies : List (List ℕ)) (body : List ℕ) → All FitsBody bod
 All-push bodies body fits fit = All-append FitsBody bodies (body ∷ []) fits (All-one body fit)
 
 -- a log whose gate is closed
-pub closed_log : (bodies : List (List ℕ)) (byte : ℕ) (rest : List ℕ) → byte ≢ 1 → All FitsBody bodies → ReadsAs (entries_text bodies ++ byte ∷ rest) bodies
+pub closed_log : (bodies : List (List ℕ)) (byte : ℕ) (rest : List ℕ) → byte ≢ 1 → All FitsBody bodies → HasEntries (entries_text bodies ++ byte ∷ rest) bodies
 closed_log bodies byte rest shut fits = (length (entries_text bodies), record { byte = byte; rest = rest; text = refl; place = refl; fits = fits; closed = inl shut })
 
 -- behind a closed gate nothing counts
 pub staging_leaves : (bodies : List (List ℕ)) (byte n : ℕ) (rest image : List ℕ) → byte ≢ 1 → All FitsBody bodies
-    → Torn (length (entries_text bodies ++ byte ∷ rest)) (length (entries_text bodies) + 1) n (entries_text bodies ++ byte ∷ rest) image → ReadsAs image bodies
+    → Torn (length (entries_text bodies ++ byte ∷ rest)) (length (entries_text bodies) + 1) n (entries_text bodies ++ byte ∷ rest) image → HasEntries image bodies
 staging_leaves bodies byte n rest image shut fits torn =
     let inside : length (entries_text bodies) + 1 ≤ length (entries_text bodies ++ byte ∷ rest) = omega (arith, length-append (entries_text bodies) (byte ∷ rest)) in
-    subst (λ (l : List ℕ). ReadsAs l bodies) (sym (torn_behind (length (entries_text bodies ++ byte ∷ rest)) n (entries_text bodies) rest image byte inside torn))
+    subst (λ (l : List ℕ). HasEntries l bodies) (sym (torn_behind (length (entries_text bodies ++ byte ∷ rest)) n (entries_text bodies) rest image byte inside torn))
     (closed_log bodies byte (drop (length (entries_text bodies) + 1) image) shut fits)
 
 -- a whole entry behind the gate counts or it doesn't
 gate_decides : (bodies : List (List ℕ)) (body more : List ℕ) (byte : ℕ) → All FitsBody bodies → FitsBody body → (byte ≡ 1) ⊎ (byte ≢ 1) → IsBeforeOrAfter bodies body (entries_text bodies ++ byte ∷ (staged_text body ++ more))
 gate_decides bodies body more byte fits fit (inl is) =
-    inr (subst (λ (b : ℕ). ReadsAs (entries_text bodies ++ b ∷ (staged_text body ++ more)) (bodies ++ body ∷ [])) (sym is)
-    (subst (λ (l : List ℕ). ReadsAs l (bodies ++ body ∷ [])) (sym (staged_is_entry bodies body more)) (closed_log (bodies ++ body ∷ []) 0 more (omega arith) (All-push bodies body fits fit))))
+    inr (subst (λ (b : ℕ). HasEntries (entries_text bodies ++ b ∷ (staged_text body ++ more)) (bodies ++ body ∷ [])) (sym is)
+    (subst (λ (l : List ℕ). HasEntries l (bodies ++ body ∷ [])) (sym (staged_is_entry bodies body more)) (closed_log (bodies ++ body ∷ []) 0 more (omega arith) (All-push bodies body fits fit))))
 gate_decides bodies body more byte fits fit (inr shut) = inl (closed_log bodies byte (staged_text body ++ more) shut fits)
 
 pub opening_leaves : (bodies : List (List ℕ)) (body more image : List ℕ) (byte : ℕ) → All FitsBody bodies → FitsBody body

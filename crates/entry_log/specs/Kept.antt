@@ -1,22 +1,22 @@
 -- A log that a disk keeps.
 use Rattle.std.specs.Prelude.{◌≡◌, ◌≢◌, ◌⊎◌, ◌++◌, [], ◌∷◌, ℕ, List, Option, Some, All, length}
-use Rattle.disk_image.specs.Crashes.{Only}
-use Rattle.entry_log.specs.Logs.{entries_text, FitsBody, ReadsAs}
+use Rattle.disk_image.specs.Crashes.{IsDurable}
+use Rattle.entry_log.specs.Logs.{entries_text, FitsBody, HasEntries}
 
 -- The disk reads as a log of these bodies whose gate, at this place, is closed, and a crash leaves just that.
-pub record Keeps (content : Option (List ℕ)) (may_leave : List ℕ → Type 0) (gate : ℕ) (bodies : List (List ℕ)) : Type 0 where
+pub record Keeps (content : Option (List ℕ)) (crash_image : List ℕ → Type 0) (gate : ℕ) (bodies : List (List ℕ)) : Type 0 where
   pub byte : ℕ
   pub rest : List ℕ
   pub closed : byte ≢ 1
   pub told : content ≡ Some (entries_text bodies ++ byte ∷ rest)
   pub place : gate ≡ length (entries_text bodies)
   pub fits : All FitsBody bodies
-  pub only : Only (entries_text bodies ++ byte ∷ rest) may_leave
+  pub only : IsDurable (entries_text bodies ++ byte ∷ rest) crash_image
 
 -- the bytes are the log from before, or that with one more body
 abbrev pub IsBeforeOrAfter : List (List ℕ) → List ℕ → List ℕ → Type 0
-IsBeforeOrAfter bodies body bytes = ReadsAs bytes bodies ⊎ ReadsAs bytes (bodies ++ body ∷ [])
+IsBeforeOrAfter bodies body bytes = HasEntries bytes bodies ⊎ HasEntries bytes (bodies ++ body ∷ [])
 
 -- there are no bytes, or they are the log without entries
 abbrev pub IsEmptyOr : List ℕ → Type 0
-IsEmptyOr bytes = (bytes ≡ []) ⊎ ReadsAs bytes []
+IsEmptyOr bytes = (bytes ≡ []) ⊎ HasEntries bytes []

@@ -32,9 +32,9 @@ pub record IsLog (bytes : List ℕ) (bodies : List (List ℕ)) (gate : ℕ) : Ty
   pub closed : (byte ≢ 1) ⊎ ((bodies ≡ []) × (rest ≡ []))
 
 -- the bytes are a log of these bodies
-abbrev pub ReadsAs : List ℕ → List (List ℕ) → Type 0
-ReadsAs bytes bodies = (gate : ℕ) × IsLog bytes bodies gate
+abbrev pub HasEntries : List ℕ → List (List ℕ) → Type 0
+HasEntries bytes bodies = (gate : ℕ) × IsLog bytes bodies gate
 
 -- the bytes are no log
 abbrev pub IsNoLog : List ℕ → Type 0
-IsNoLog bytes = (bodies : List (List ℕ)) → ¬ ReadsAs bytes bodies
+IsNoLog bytes = (bodies : List (List ℕ)) → ¬ HasEntries bytes bodies

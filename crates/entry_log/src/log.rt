@@ -4,9 +4,9 @@ ghost use Rattle.std.specs.Prelude.{◌≡◌, ◌≢◌, ◌⊎◌, ◌++◌, �
 ghost use Rattle.std.specs.Int.{w64};
 ghost use Rattle.byte_frame.specs.Frames.{frame_text};
 ghost use Rattle.byte_frame.specs.Spelling.{sized_text};
-ghost use Rattle.disk_image.specs.Crashes.{LeavesOnly, Only};
+ghost use Rattle.disk_image.specs.Crashes.{CrashCondition, IsDurable};
 ghost use Rattle.entry_log.specs.Kept.{IsBeforeOrAfter, IsEmptyOr, Keeps};
-ghost use Rattle.entry_log.specs.Logs.{FitsBody, ReadsAs, entry_frame};
+ghost use Rattle.entry_log.specs.Logs.{FitsBody, HasEntries, entry_frame};
 ghost use Rattle.outside.specs.Counts.{Rose};
 
 use crate::fault::LogFault;
@@ -52,8 +52,8 @@ impl Log {
     /// The log without entries, on a disk without bytes. Where all of the disk was kept, a crash at any moment of the
     /// call leaves no bytes or that log.
     pub fn create<D: Disk>(disk: &mut D) -> Result<Log, LogFault>
-        ensures kept { IfOk result (λ log. D.content disk.old ≡ Some [] → Keeps (D.content disk.new) (D.may_leave disk.new) log []) }
-        ensures any_moment { D.content disk.old ≡ Some [] → Only [] (D.may_leave disk.old) → LeavesOnly D.moment D.left_since disk.old disk.new IsEmptyOr }
+        ensures kept { IfOk result (λ log. D.content disk.old ≡ Some [] → Keeps (D.content disk.new) (D.crash_image disk.new) log []) }
+        ensures crash { D.content disk.old ≡ Some [] → IsDurable [] (D.crash_image disk.old) → CrashCondition D.clock D.image_since disk.old disk.new IsEmptyOr }
         ensures always_log { result ≢ Err LogFault.NotLog }
         ensures failed { IsErrOf result LogFault.Disk → Rose (D.faults disk.old) (D.faults disk.new) }
         ensures faults { D.faults disk.old ≤ D.faults disk.new }
@@ -70,13 +70,13 @@ impl Log {
         disk: &mut D,
         body: &[u8],
     ) -> Result<(), LogFault>
-        ensures acknowledged { OnOk result ((bodies : List (List ℕ)) → Keeps (D.content disk.old) (D.may_leave disk.old) self.old bodies → Keeps (D.content disk.new) (D.may_leave disk.new) self.new (bodies ++ body.now ∷ [])) }
+        ensures durable { OnOk result ((bodies : List (List ℕ)) → Keeps (D.content disk.old) (D.crash_image disk.old) self.old bodies → Keeps (D.content disk.new) (D.crash_image disk.new) self.new (bodies ++ body.now ∷ [])) }
 
         // A crash at any moment of the call leaves the log from before it, or that with the entry.
-        ensures any_moment { (bodies : List (List ℕ)) → Keeps (D.content disk.old) (D.may_leave disk.old) self.old bodies → LeavesOnly D.moment D.left_since disk.old disk.new (IsBeforeOrAfter bodies body.now) }
+        ensures crash { (bodies : List (List ℕ)) → Keeps (D.content disk.old) (D.crash_image disk.old) self.old bodies → CrashCondition D.clock D.image_since disk.old disk.new (IsBeforeOrAfter bodies body.now) }
 
         // So does the disk as it reads then, whatever the answer.
-        ensures reads { (bodies : List (List ℕ)) (bytes : List ℕ) → Keeps (D.content disk.old) (D.may_leave disk.old) self.old bodies → D.content disk.new ≡ Some bytes → IsBeforeOrAfter bodies body.now bytes }
+        ensures reads { (bodies : List (List ℕ)) (bytes : List ℕ) → Keeps (D.content disk.old) (D.crash_image disk.old) self.old bodies → D.content disk.new ≡ Some bytes → IsBeforeOrAfter bodies body.now bytes }
 
         ensures always_log { result ≢ Err LogFault.NotLog }
         ensures failed { IsErrOf result LogFault.Disk → Rose (D.faults disk.old) (D.faults disk.new) }
@@ -87,8 +87,8 @@ impl Log {
 
     // Adds an entry, of which `append` says more.
     fn add<D: Disk>(&mut self, alloc: Global, disk: &mut D, body: &[u8]) -> Result<(), LogFault>
-        ensures acknowledged { OnOk result ((bodies : List (List ℕ)) → Keeps (D.content disk.old) (D.may_leave disk.old) self.old bodies → Keeps (D.content disk.new) (D.may_leave disk.new) self.new (bodies ++ body.now ∷ [])) }
-        ensures any_moment { (bodies : List (List ℕ)) → Keeps (D.content disk.old) (D.may_leave disk.old) self.old bodies → LeavesOnly D.moment D.left_since disk.old disk.new (IsBeforeOrAfter bodies body.now) }
+        ensures durable { OnOk result ((bodies : List (List ℕ)) → Keeps (D.content disk.old) (D.crash_image disk.old) self.old bodies → Keeps (D.content disk.new) (D.crash_image disk.new) self.new (bodies ++ body.now ∷ [])) }
+        ensures crash { (bodies : List (List ℕ)) → Keeps (D.content disk.old) (D.crash_image disk.old) self.old bodies → CrashCondition D.clock D.image_since disk.old disk.new (IsBeforeOrAfter bodies body.now) }
         ensures always_log { result ≢ Err LogFault.NotLog }
         ensures failed { IsErrOf result LogFault.Disk → Rose (D.faults disk.old) (D.faults disk.new) }
         ensures faults { D.faults disk.old ≤ D.faults disk.new }
