@@ -3,3 +3,4 @@ mod OneLog
 mod Changes
 mod Appended
 mod Runs
+mod Reading

@@ -20,3 +20,7 @@ IsBeforeOrAfter bodies body bytes = HasEntries bytes bodies ⊎ HasEntries bytes
 -- there are no bytes, or they are the log without entries
 abbrev pub IsEmptyOr : List ℕ → Type 0
 IsEmptyOr bytes = (bytes ≡ []) ⊎ HasEntries bytes []
+
+-- the bytes have the entries that these have, where these are a log
+abbrev pub IsStill : List ℕ → List ℕ → Type 0
+IsStill file bytes = (bodies : List (List ℕ)) → HasEntries file bodies → HasEntries bytes bodies

@@ -1,8 +1,10 @@
 -- How a log is spelled: whole entries, a gate, and any bytes behind it.
-use Rattle.std.specs.Prelude.{◌≡◌, ◌≢◌, ◌⊎◌, ◌+◌, ◌<◌, ◌^◌, ◌++◌, [], ◌∷◌, ℕ, List, All, length, replicate}
+use Rattle.std.specs.Prelude.{◌≡◌, ◌≢◌, ◌⊎◌, ◌+◌, ◌<◌, ◌^◌, ◌++◌, [], ◌∷◌, ℕ, List, Option, All, Vec, Bool, true, false, not, ◌==◌, length, map, replicate}
+use Rattle.std.specs.declared.alloc.Global.{Global}
 use Rattle.std.specs.Int.{w64}
 use Rattle.std.specs.List.{flat_map}
 use Rattle.byte_frame.specs.Frames.{Frame, frame_text}
+use Rattle.byte_frame.specs.Reading.{sized_at, tagged_at}
 use Rattle.byte_frame.specs.Spelling.{sized_text}
 
 -- an entry's body in its frame: version 2, and no task
@@ -38,3 +40,22 @@ HasEntries bytes bodies = (gate : ℕ) × IsLog bytes bodies gate
 -- the bytes are no log
 abbrev pub IsNoLog : List ℕ → Type 0
 IsNoLog bytes = (bodies : List (List ℕ)) → ¬ HasEntries bytes bodies
+
+-- ---- what stands at a gate
+
+-- the bytes behind an open gate and their length, and what follows
+abbrev pub gated_at : List ℕ → Option (List ℕ × List ℕ)
+gated_at = tagged_at 1 (sized_at w64 (λ _. true))
+
+-- the bytes begin with no entry
+abbrev pub IsNoEntry : List ℕ → Type 0
+IsNoEntry bytes = (body rest : List ℕ) → FitsBody body → ¬ (bytes ≡ entry_text body ++ rest)
+
+-- the bytes begin with a byte that isn't 1
+abbrev pub gate_is_shut : List ℕ → Bool
+gate_is_shut [] = false
+gate_is_shut (byte ∷ rest) = not (byte == 1)
+
+-- the bodies as they are held
+abbrev pub bodies_of : List (Vec ℕ Global) → List (List ℕ)
+bodies_of bodies = map (λ body. body.items) bodies

@@ -11,8 +11,10 @@ mod fault;
 mod kept;
 mod laws;
 mod log;
+mod read;
 
 pub use examples::worked_logs;
 pub use fault::LogFault;
 pub use laws::logs_are_one;
 pub use log::Log;
+pub use read::read_log;

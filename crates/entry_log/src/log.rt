@@ -49,6 +49,13 @@ fn staged(alloc: Global, body: &[u8]) -> Result<Vec<u8>, AllocError>
 }
 
 impl Log {
+    /// The log whose closed gate stands at this place.
+    pub(crate) fn at(gate: u64) -> Log
+        ensures { result ≡ gate }
+    {
+        Log { gate }
+    }
+
     /// The log without entries, on a disk without bytes. Where all of the disk was kept, a crash at any moment of the
     /// call leaves no bytes or that log.
     pub fn create<D: Disk>(disk: &mut D) -> Result<Log, LogFault>
