@@ -3,4 +3,6 @@ mod OneLog
 mod Changes
 mod Appended
 mod Runs
+mod LeftAlone
+mod Pieces
 mod Reading

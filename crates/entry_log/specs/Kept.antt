@@ -24,3 +24,7 @@ IsEmptyOr bytes = (bytes ≡ []) ⊎ HasEntries bytes []
 -- the bytes have the entries that these have, where these are a log
 abbrev pub IsStill : List ℕ → List ℕ → Type 0
 IsStill file bytes = (bodies : List (List ℕ)) → HasEntries file bodies → HasEntries bytes bodies
+
+-- the bytes are one of these images, or have the entries that the file has
+abbrev pub IsEarlierOr : (List ℕ → Type 0) → List ℕ → List ℕ → Type 0
+IsEarlierOr images file bytes = images bytes ⊎ IsStill file bytes

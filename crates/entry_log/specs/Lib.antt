@@ -3,3 +3,4 @@ pub mod Kept
 pub mod Laws
 pub mod Examples
 pub mod Faults
+pub mod Looks

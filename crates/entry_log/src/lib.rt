@@ -11,6 +11,7 @@ mod fault;
 mod kept;
 mod laws;
 mod log;
+mod opening;
 mod read;
 
 pub use examples::worked_logs;
