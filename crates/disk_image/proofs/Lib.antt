@@ -1,0 +1,4 @@
+mod Records
+mod Images
+mod Calls
+pub mod CrashConditions

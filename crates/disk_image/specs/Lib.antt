@@ -1,0 +1,5 @@
+pub mod Changes
+pub mod Crashes
+pub mod MemoryDisk
+pub mod MemoryLaws
+pub mod Examples
