@@ -8,8 +8,8 @@
 
 ghost use Rattle.std.specs.Prelude.{◌≡◌, IfOk, length};
 
-use cubes_plain::status::MEMORY;
 use cubes_top::run;
+use fault_lines::status::MEMORY;
 use fixed_cube::SmallWork;
 use local_hand::LocalHand;
 use os_objects::{OsFiles, OsStopper, StdSink};

@@ -1,32 +1,28 @@
--- The descriptor file that `cuboids` reads, where the contents of the files are told.
-use Rattle.std.specs.Prelude.{◌≡◌, ◌≤◌, ◌∷◌, [], ◌++◌, ⊤, ℕ, List, Option, Some, None, Ok, Err, codes, length}
+-- The descriptor file that `cuboids` reads.
+use Rattle.std.specs.Prelude.{◌≡◌, ◌∷◌, [], ◌++◌, ℕ, List, Option, Ok, Err, codes}
 use Rattle.cube_desc.specs.Cube.{Cube}
 use Rattle.cube_desc.specs.Meaning.{meaning}
 use Rattle.desc_checks.specs.declared.kind.DescFault.{DescFault}
 use Rattle.desc_checks.specs.declared.kind.DescKind.{DescKind}
 use Rattle.desc_checks.specs.declared.kind.DescKind.TheVariants as kind
+use Rattle.fault_lines.specs.Files.{IsFileAt, TellsFileAt}
 use Rattle.outside.specs.Contents.{Paths}
-use Rattle.cubes_plain.specs.Files.{most_bytes}
 
--- where the contents are told, the file at the path is not too large and describes the cube
+-- the bytes of the file are not too many and describe the cube; they stand at the path, where the contents are told
 abbrev pub DescribedAt : Option Paths → List ℕ → Cube → Type 0
-DescribedAt None path cube = ⊤
-DescribedAt (Some paths) path cube = (bytes : List ℕ) × (paths path ≡ Some bytes) × (length bytes ≤ most_bytes) × (meaning bytes ≡ Ok cube)
+DescribedAt contents path cube = IsFileAt contents path (λ bytes. meaning bytes ≡ Ok cube)
 
--- where the contents are told, a file is at the path that is not too large and is no descriptor, with this fault
+-- .. and are no descriptor, with this fault
 abbrev pub MisdescribedAt : Option Paths → List ℕ → DescFault → Type 0
-MisdescribedAt None path fault = ⊤
-MisdescribedAt (Some paths) path fault = (bytes : List ℕ) × (paths path ≡ Some bytes) × (length bytes ≤ most_bytes) × (meaning bytes ≡ Err fault)
+MisdescribedAt contents path fault = IsFileAt contents path (λ bytes. meaning bytes ≡ Err fault)
 
 -- the contents are told, and the file at the path is not too large and describes the cube
 abbrev pub TellsDescribedAt : Option Paths → List ℕ → Cube → Type 0
-TellsDescribedAt None path cube = ⊥
-TellsDescribedAt (Some paths) path cube = DescribedAt (Some paths) path cube
+TellsDescribedAt contents path cube = TellsFileAt contents path (λ bytes. meaning bytes ≡ Ok cube)
 
--- the contents are told, and a file is at the path that is not too large and is no descriptor, with this fault
+-- .. and is no descriptor, with this fault
 abbrev pub TellsMisdescribedAt : Option Paths → List ℕ → DescFault → Type 0
-TellsMisdescribedAt None path fault = ⊥
-TellsMisdescribedAt (Some paths) path fault = MisdescribedAt (Some paths) path fault
+TellsMisdescribedAt contents path fault = TellsFileAt contents path (λ bytes. meaning bytes ≡ Err fault)
 
 abbrev pub desc_kind_text : DescKind → List ℕ
 desc_kind_text kind.NotJson = codes "NotJson"

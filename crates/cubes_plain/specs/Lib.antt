@@ -3,7 +3,6 @@ pub mod Descriptors
 pub mod Examples
 pub mod Files
 pub mod Folds
-pub mod Outputs
 pub mod Rows
 pub mod StepExamples
 pub mod Steps

@@ -1,20 +1,18 @@
 -- What `step` leaves: a task is at one path, and its product comes to another one.
-use Rattle.std.specs.Prelude.{◌≡◌, ◌≢◌, ◌⊎◌, ⊤, ℕ, List, Option, Some, None}
-use Rattle.outside.specs.Contents.{Paths, SameElsewhere}
+use Rattle.std.specs.Prelude.{◌≡◌, ◌≢◌, ◌⊎◌, ℕ, List, Option, Some, None}
+use Rattle.fault_lines.specs.Files.{TellsNothingAt}
+use Rattle.fault_lines.specs.Lines.{Appends, bad_task_line, read_fault_line, stopped_line}
+use Rattle.outside.specs.Contents.{Paths, SameElsewhere, StandsAt}
 use Rattle.outside.specs.Counts.{Rose}
 use Rattle.outside.specs.Watches.{HoldsIfTold, there_at}
-use Rattle.cubes_plain.specs.Files.{TellsNothingAt}
-use Rattle.cubes_plain.specs.Outputs.{Appends, bad_task_line, read_fault_line, stopped_line}
 
--- where the contents are told, a task is at the path
+-- the bytes of a file are a task; they stand at the path, where the contents are told
 abbrev pub TaskAt : (List ℕ → Type 0) → Option Paths → List ℕ → Type 0
-TaskAt is_task None path = ⊤
-TaskAt is_task (Some paths) path = (bytes : List ℕ) × (paths path ≡ Some bytes) × is_task bytes
+TaskAt is_task contents path = (bytes : List ℕ) × StandsAt contents path bytes × is_task bytes
 
--- where the contents are told, a file is at the path that is no task
+-- .. and are no task
 abbrev pub NoTaskAt : (List ℕ → Type 0) → Option Paths → List ℕ → Type 0
-NoTaskAt is_task None path = ⊤
-NoTaskAt is_task (Some paths) path = (bytes : List ℕ) × (paths path ≡ Some bytes) × (is_task bytes → ⊥)
+NoTaskAt is_task contents path = (bytes : List ℕ) × StandsAt contents path bytes × (is_task bytes → ⊥)
 
 -- the contents are told, and a task is at the path
 abbrev pub TellsTaskAt : (List ℕ → Type 0) → Option Paths → List ℕ → Type 0
@@ -26,9 +24,9 @@ abbrev pub TellsNoTaskAt : (List ℕ → Type 0) → Option Paths → List ℕ �
 TellsNoTaskAt is_task None path = ⊥
 TellsNoTaskAt is_task (Some paths) path = NoTaskAt is_task (Some paths) path
 
--- where the contents are told, a task was at the one path, and now its product is at the other one
+-- the bytes of a file were a task; where the contents are told, it stood at the one path, and now its product stands at the other one
 abbrev pub ProducedAt : (List ℕ → Type 0) → (List ℕ → List ℕ) → Option Paths → Option Paths → List ℕ → List ℕ → Type 0
-ProducedAt is_task text None new task product = ⊤
+ProducedAt is_task text None new task product = (bytes : List ℕ) × is_task bytes
 ProducedAt is_task text (Some old) None task product = ⊥
 ProducedAt is_task text (Some old) (Some new) task product = (bytes : List ℕ) × (old task ≡ Some bytes) × is_task bytes × (new product ≡ Some (text bytes))
 

@@ -5,17 +5,17 @@ ghost use Rattle.cube_desc.specs.Cube.{Cube};
 ghost use Rattle.cube_desc.specs.Meaning.{meaning};
 ghost use Rattle.cuboid_lines.specs.Lines.{cuboids_text};
 ghost use Rattle.cubes_plain.specs.Descriptors.{DescribedAt, MisdescribedAt, TellsDescribedAt, TellsMisdescribedAt, bad_descriptor_line, desc_kind_text, place_text};
-ghost use Rattle.cubes_plain.specs.Files.{TellsLongerAt, TellsNothingAt, most_bytes};
-ghost use Rattle.cubes_plain.specs.Outputs.{Appends, AppendsAll, read_fault_line, too_large_line};
 ghost use Rattle.desc_checks.specs.declared.kind.DescFault.{DescFault};
+ghost use Rattle.fault_lines.specs.Files.{TellsLongerAt, TellsNothingAt, most_bytes};
+ghost use Rattle.fault_lines.specs.Lines.{Appends, AppendsAll, read_fault_line, too_large_line};
 ghost use Rattle.outside.specs.Contents.{IsLongerAt, IsNotLongerAt};
 ghost use Rattle.outside.specs.Counts.{Rose};
 ghost use Rattle.outside.specs.Written.{AppendsPart};
 
-use crate::output::{MOST_BYTES, finish, refuse, refuse_path};
-use crate::status::{BAD_DESCRIPTOR, DONE, MEMORY, READ_FAULT, TOO_LARGE, WRITE_FAULT};
 use cube_desc::{DescFault, DescKind, DescRefusal, read_desc};
 use cuboid_lines::cuboids_text;
+use fault_lines::status::{BAD_DESCRIPTOR, DONE, MEMORY, READ_FAULT, TOO_LARGE, WRITE_FAULT};
+use fault_lines::{MOST_BYTES, finish, refuse, refuse_path};
 use outside::{FileFault, Files, Sink};
 use std::alloc::{AllocError, Global};
 

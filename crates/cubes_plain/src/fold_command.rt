@@ -2,20 +2,22 @@
 
 ghost use Rattle.std.specs.Prelude.{◌≡◌, ◌≢◌, ◌⊎◌, ◌++◌, ◌∷◌, [], ℕ, List, IfOk, IsErrOf, codes};
 ghost use Rattle.cube_val.specs.declared.val.Val.{Val};
-ghost use Rattle.cubes_plain.specs.Files.{AcceptedAt, FaultyAt, TellsAcceptedAt, TellsFaultyAt, TellsLongerAt, TellsNothingAt, most_bytes};
+ghost use Rattle.cubes_plain.specs.Files.{AcceptedAt, FaultyAt, TellsAcceptedAt, TellsFaultyAt};
 ghost use Rattle.cubes_plain.specs.Folds.{fold_text};
-ghost use Rattle.cubes_plain.specs.Outputs.{Appends, AppendsAll, bad_table_line, read_fault_line, too_large_line};
-ghost use Rattle.cubes_plain.specs.Tables.{IsFoldFault, IsFoldTable};
+ghost use Rattle.cubes_plain.specs.Tables.{IsFoldFault, IsFoldTable, fold_names};
+ghost use Rattle.fault_lines.specs.Files.{TellsLongerAt, TellsNothingAt, most_bytes};
+ghost use Rattle.fault_lines.specs.Lines.{Appends, AppendsAll, read_fault_line, too_large_line};
+ghost use Rattle.fault_lines.specs.Tables.{bad_table_line};
 ghost use Rattle.outside.specs.Contents.{IsLongerAt, IsNotLongerAt};
 ghost use Rattle.outside.specs.Counts.{Rose};
 ghost use Rattle.outside.specs.Written.{AppendsPart};
 ghost use Rattle.table_reader.specs.declared.fault.TableFault.{TableFault};
 
 use crate::fold::fold_text;
-use crate::output::{MOST_BYTES, finish, refuse, refuse_path};
-use crate::rows::{column_text, kind_text, read_rows};
-use crate::status::{BAD_TABLE, DONE, MEMORY, READ_FAULT, TOO_LARGE, WRITE_FAULT};
+use crate::rows::read_rows;
 use cube_val::Row;
+use fault_lines::status::{BAD_TABLE, DONE, MEMORY, READ_FAULT, TOO_LARGE, WRITE_FAULT};
+use fault_lines::{MOST_BYTES, finish, refuse_path, refuse_table};
 use outside::{FileFault, Files, Sink};
 use std::alloc::Global;
 use std::thread::Threads;
@@ -80,21 +82,6 @@ fn fold_output<R: Threads + Sync, F: Files>(
     text_of_bytes(rt, alloc, bytes)
 }
 
-// Writes the fault line of a table, and says the status.
-fn refuse_table<S: Sink>(alloc: Global, sink: &mut S, path: &str, fault: TableFault) -> u8
-    ensures status { (result ≡ BAD_TABLE) ⊎ (result ≡ MEMORY) }
-    ensures line { result ≡ BAD_TABLE → Appends (S.faults sink.old) (S.faults sink.new) (S.written sink.old) (S.written sink.new) (bad_table_line path.now fault) }
-    ensures memory { result ≡ MEMORY → S.written sink.new ≡ S.written sink.old }
-{
-    let row = fault.row;
-    let column = column_text(fault.column);
-    let kind = kind_text(fault.kind);
-    match format!(in alloc; "fault: BadTable {path} {row} {column} {kind}\n") {
-        Ok(line) => refuse(sink, line.as_bytes(), BAD_TABLE),
-        Err(_) => MEMORY,
-    }
-}
-
 /// Writes the counts and sums of the table at the path, and says the status. A fault is answered as every command
 /// answers it; want of memory is free.
 pub fn run_fold<R: Threads + Sync, F: Files, S: Sink>(
@@ -113,7 +100,7 @@ pub fn run_fold<R: Threads + Sync, F: Files, S: Sink>(
     ensures write_fault { result ≡ WRITE_FAULT → Rose (S.faults sink.old) (S.faults sink.new) }
     ensures write_fault_part { result ≡ WRITE_FAULT → (rows : List (List Val)) × AcceptedAt (F.contents files.old) path.now rows × AppendsPart (S.written sink.old) (S.written sink.new) (fold_text rows) }
     ensures bad_table { result ≡ BAD_TABLE → (fault : TableFault) × FaultyAt (F.contents files.old) path.now fault
-        × Appends (S.faults sink.old) (S.faults sink.new) (S.written sink.old) (S.written sink.new) (bad_table_line path.now fault) }
+        × Appends (S.faults sink.old) (S.faults sink.new) (S.written sink.old) (S.written sink.new) (bad_table_line fold_names path.now fault) }
     ensures faulty { (fault : TableFault) → TellsFaultyAt (F.contents files.old) path.now fault → (result ≡ BAD_TABLE) ⊎ (result ≡ READ_FAULT) ⊎ (result ≡ MEMORY) }
     ensures too_large { result ≡ TOO_LARGE → IsLongerAt (F.contents files.old) path.now most_bytes
         × Appends (S.faults sink.old) (S.faults sink.new) (S.written sink.old) (S.written sink.new) (too_large_line path.now) }
@@ -128,6 +115,8 @@ pub fn run_fold<R: Threads + Sync, F: Files, S: Sink>(
         Err(Fault::Memory) => MEMORY,
         Err(Fault::ReadFault) => refuse_path(alloc, sink, "ReadFault", path, READ_FAULT),
         Err(Fault::TooLarge) => refuse_path(alloc, sink, "TooLarge", path, TOO_LARGE),
-        Err(Fault::BadTable(fault)) => refuse_table(alloc, sink, path, fault),
+        Err(Fault::BadTable(fault)) => {
+            refuse_table(alloc, sink, &["D1", "D2", "M"], path, fault)
+        }
     }
 }

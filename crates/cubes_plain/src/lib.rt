@@ -5,10 +5,10 @@
 //!
 //! The crate stands near the top: the words come from `command_line`; it reads through `outside::Files` and
 //! `table_reader`, makes the dictionaries of columns and cuboids of rows by `layer_builder`, has descriptors
-//! from `cube_desc` and the lines of their cuboids from `cuboid_lines`, and writes through `outside::Sink`. The modules:
+//! from `cube_desc` and the lines of their cuboids from `cuboid_lines`, and writes its output or its fault line by `fault_lines`. The modules:
 //! `rows` (the bytes of a file to rows, by `table_reader`), `dictionaries` (the numbers of D1 and of D2), `fold` (the cuboid
 //! of D1, by way of the base cuboids of pieces, and its text), `fold_command`, `cuboids` and `step` (the commands
-//! over their paths), `output` (what every command writes) and `plain` (the top call). Which bytes are tasks, and what their
+//! over their paths) and `plain` (the top call). Which bytes are tasks, and what their
 //! products are, comes in as a type, an `outside::StepWork`.
 //!
 //! The invariant at its boundary is the contract of `run_plain`: which status comes when, and what was written then.
@@ -21,16 +21,12 @@ mod dictionaries;
 mod examples;
 mod fold;
 mod fold_command;
-mod output;
 mod plain;
 mod rows;
-pub mod status;
 mod step;
 mod step_examples;
 
 pub use examples::worked_examples;
-pub use output::{refuse, refuse_path};
 pub use plain::run_plain;
-pub use rows::kind_text;
 pub use step::run_step_file;
 pub use step_examples::worked_steps;

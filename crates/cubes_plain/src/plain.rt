@@ -7,13 +7,16 @@ ghost use Rattle.std.specs.declared.string.String.{String};
 ghost use Rattle.cube_desc.specs.Cube.{Cube};
 ghost use Rattle.cube_val.specs.declared.val.Val.{Val};
 ghost use Rattle.cubes_plain.specs.Descriptors.{DescribedAt, MisdescribedAt, TellsDescribedAt, TellsMisdescribedAt, bad_descriptor_line};
-ghost use Rattle.cubes_plain.specs.Files.{AcceptedAt, FaultyAt, TellsAcceptedAt, TellsFaultyAt, TellsLongerAt, TellsNothingAt, most_bytes};
+ghost use Rattle.cubes_plain.specs.Files.{AcceptedAt, FaultyAt, TellsAcceptedAt, TellsFaultyAt};
 ghost use Rattle.cubes_plain.specs.Folds.{fold_text};
-ghost use Rattle.cubes_plain.specs.Outputs.{Appends, AppendsAll, bad_table_line, bad_words_line, read_fault_line, too_large_line};
 ghost use Rattle.cubes_plain.specs.Steps.{IsStepRun, files_at, sink_at};
+ghost use Rattle.cubes_plain.specs.Tables.{fold_names};
 ghost use Rattle.cubes_plain.specs.Words.{IsCuboids, IsFold, IsNoCommand, IsNoStep, IsOver, IsStep};
 ghost use Rattle.cuboid_lines.specs.Lines.{cuboids_text};
 ghost use Rattle.desc_checks.specs.declared.kind.DescFault.{DescFault};
+ghost use Rattle.fault_lines.specs.Files.{TellsLongerAt, TellsNothingAt, most_bytes};
+ghost use Rattle.fault_lines.specs.Lines.{Appends, AppendsAll, bad_words_line, read_fault_line, too_large_line};
+ghost use Rattle.fault_lines.specs.Tables.{bad_table_line};
 ghost use Rattle.outside.specs.Contents.{IsLongerAt};
 ghost use Rattle.outside.specs.Counts.{Rose};
 ghost use Rattle.outside.specs.Written.{AppendsPart};
@@ -21,13 +24,13 @@ ghost use Rattle.table_reader.specs.declared.fault.TableFault.{TableFault};
 
 use crate::cuboids::run_cuboids;
 use crate::fold_command::run_fold;
-use crate::output::refuse;
-use crate::status::{
+use crate::step::run_step_file;
+use command_line::{Order, WordsRefusal, read_words};
+use fault_lines::refuse;
+use fault_lines::status::{
     BAD_DESCRIPTOR, BAD_TABLE, BAD_TASK, BAD_WORDS, DONE, MEMORY, READ_FAULT, STOPPED, TOO_LARGE,
     WRITE_FAULT,
 };
-use crate::step::run_step_file;
-use command_line::{Order, WordsRefusal, read_words};
 use outside::{Files, Sink, StepWork};
 use std::alloc::Global;
 use std::thread::Threads;
@@ -72,7 +75,7 @@ fn plain_order(alloc: Global, words: &[String]) -> Result<PlainOrder, WordsRefus
     }
 }
 
-/// Runs a command that runs no jobs, and says its status, one of those in `status`. The words do not hold the
+/// Runs a command that runs no jobs, and says its status, one of those in `fault_lines::status`. The words do not hold the
 /// program's own name. A command reads its file, then works, then writes its output in one piece, `step` as its product
 /// file and every other one to the sink; where it has no output it writes one fault line. `K` is the work of steps. Want of
 /// memory is free: its status may stand in place of every other one.
@@ -126,7 +129,7 @@ pub fn run_plain<K: StepWork, R: Threads + Sync, F: Files, S: Sink>(
     // A bad table: exactly where the file that was read is none, with its first fault.
     ensures bad_table { result ≡ BAD_TABLE → (path : List ℕ) × (fault : TableFault) × IsFold words.now path
         × FaultyAt (F.contents files.old) path fault
-        × Appends (S.faults sink.old) (S.faults sink.new) (S.written sink.old) (S.written sink.new) (bad_table_line path fault) }
+        × Appends (S.faults sink.old) (S.faults sink.new) (S.written sink.old) (S.written sink.new) (bad_table_line fold_names path fault) }
     ensures faulty { (path : List ℕ) (fault : TableFault) → IsFold words.now path → TellsFaultyAt (F.contents files.old) path fault
         → (result ≡ BAD_TABLE) ⊎ (result ≡ READ_FAULT) ⊎ (result ≡ MEMORY) }
 

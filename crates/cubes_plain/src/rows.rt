@@ -1,12 +1,12 @@
-// The rows of the file of `fold`, and the words of its faults.
+// The rows of the file of `fold`.
 
 ghost use Rattle.std.specs.Prelude.{◌≡◌, Err, IfOk};
-ghost use Rattle.cubes_plain.specs.Tables.{IsFoldFault, IsFoldTable, column, column_text, fold_form, kind_text};
+ghost use Rattle.cubes_plain.specs.Tables.{IsFoldFault, IsFoldTable, column, fold_form};
 ghost use Rattle.table_reader.specs.declared.fault.TableFault.{TableFault};
 
 use cube_val::{ColDesc, ColType, Items, NameText, Row, TableForm};
 use std::alloc::{AllocError, Global};
-use table_reader::{TableFault, TableKind, TableRefusal};
+use table_reader::{TableFault, TableRefusal};
 
 // A column of the form.
 fn column(alloc: Global, name: &[u8], ty: ColType) -> Result<ColDesc, AllocError>
@@ -44,32 +44,4 @@ pub fn read_rows(alloc: Global, bytes: &[u8]) -> Result<Vec<Row>, TableRefusal>
         return Err(TableRefusal::Memory);
     };
     table_reader::read_rows(alloc, &form, bytes)
-}
-
-/// The name of a column in a fault line, or a dash for none.
-pub fn column_text(place: Option<usize>) -> &'static str
-    ensures { result.now ≡ column_text place }
-{
-    match place {
-        None => "-",
-        Some(0) => "D1",
-        Some(1) => "D2",
-        Some(_) => "M",
-    }
-}
-
-/// The name of a kind in a fault line.
-pub fn kind_text(kind: TableKind) -> &'static str
-    ensures { result.now ≡ kind_text kind }
-{
-    match kind {
-        TableKind::NoHeader => "NoHeader",
-        TableKind::MissingColumn => "MissingColumn",
-        TableKind::RepeatedColumn => "RepeatedColumn",
-        TableKind::FieldCount => "FieldCount",
-        TableKind::BadValue => "BadValue",
-        TableKind::NullMeasure => "NullMeasure",
-        TableKind::DuplicateKey => "DuplicateKey",
-        TableKind::TooManyRows => "TooManyRows",
-    }
 }

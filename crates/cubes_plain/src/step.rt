@@ -1,15 +1,15 @@
 // The command `step`.
 
 ghost use Rattle.std.specs.Prelude.{◌≡◌, ◌≢◌, ◌≤◌, ◌⊎◌, ◌++◌, ◌∷◌, [], ℕ, List, IfOk, IsErrOf, OnOk, codes};
-ghost use Rattle.cubes_plain.specs.Files.{TellsNothingAt};
-ghost use Rattle.cubes_plain.specs.Outputs.{Appends, bad_task_line, read_fault_line, stopped_line};
 ghost use Rattle.cubes_plain.specs.Steps.{NoTaskAt, ProducedAt, TaskAt, TellsNoTaskAt, TellsTaskAt};
+ghost use Rattle.fault_lines.specs.Files.{TellsNothingAt};
+ghost use Rattle.fault_lines.specs.Lines.{Appends, bad_task_line, read_fault_line, stopped_line};
 ghost use Rattle.outside.specs.Contents.{SameElsewhere, StandsAt};
 ghost use Rattle.outside.specs.Counts.{Rose};
 ghost use Rattle.outside.specs.Watches.{HoldsIfTold, there_at};
 
-use crate::output::{refuse, refuse_path};
-use crate::status::{BAD_TASK, DONE, MEMORY, READ_FAULT, STOPPED, WRITE_FAULT};
+use fault_lines::status::{BAD_TASK, DONE, MEMORY, READ_FAULT, STOPPED, WRITE_FAULT};
+use fault_lines::{refuse, refuse_path};
 use outside::{FileFault, FileWatch, Files, Sink, StepWork, WorkFault};
 use std::alloc::Global;
 use std::thread::Threads;

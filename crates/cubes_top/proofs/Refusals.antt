@@ -11,7 +11,7 @@ use Rattle.run_inputs.specs.declared.fault.InputFault.TheVariants.{BadScript, Ba
 use Rattle.run_inputs.specs.declared.fault.InputRefusal.{InputRefusal}
 use Rattle.run_inputs.specs.declared.fault.InputRefusal.TheVariants.{Fault, Memory}
 use Rattle.run_inputs.specs.declared.inputs.FixedInputs.{FixedInputs}
-use Rattle.run_refusal.specs.Lines.{Refuses, status_of}
+use Rattle.run_inputs.specs.Lines.{Refuses, status_of}
 use Rattle.cubes_top.specs.Outcomes.{EndsAs, IsRefusalAt}
 
 -- ---- which status a refusal has

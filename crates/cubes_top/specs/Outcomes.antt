@@ -9,7 +9,7 @@ use Rattle.run_inputs.specs.declared.fault.InputFault.{InputFault}
 use Rattle.run_inputs.specs.declared.fault.InputRefusal.{InputRefusal}
 use Rattle.run_inputs.specs.declared.fault.InputRefusal.TheVariants.{Fault, Memory}
 use Rattle.run_inputs.specs.declared.inputs.FixedInputs.{FixedInputs}
-use Rattle.run_refusal.specs.Lines.{Refuses, status_of}
+use Rattle.run_inputs.specs.Lines.{Refuses, status_of}
 use Rattle.cubes_top.specs.Outside.{Outside}
 
 -- the files gave inputs, and this is a run over them

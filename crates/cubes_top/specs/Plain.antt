@@ -5,12 +5,15 @@ use Rattle.std.specs.declared.string.String.{String}
 use Rattle.cube_desc.specs.Cube.{Cube}
 use Rattle.cube_val.specs.declared.val.Val.{Val}
 use Rattle.cubes_plain.specs.Descriptors.{DescribedAt, MisdescribedAt, TellsDescribedAt, TellsMisdescribedAt, bad_descriptor_line}
-use Rattle.cubes_plain.specs.Files.{AcceptedAt, FaultyAt, TellsAcceptedAt, TellsFaultyAt, TellsLongerAt, TellsNothingAt, most_bytes}
+use Rattle.cubes_plain.specs.Files.{AcceptedAt, FaultyAt, TellsAcceptedAt, TellsFaultyAt}
 use Rattle.cubes_plain.specs.Folds.{fold_text}
-use Rattle.cubes_plain.specs.Outputs.{Appends, AppendsAll, bad_table_line, read_fault_line, too_large_line}
+use Rattle.cubes_plain.specs.Tables.{fold_names}
 use Rattle.cubes_plain.specs.Words.{IsCuboids, IsFold, IsOver}
 use Rattle.cuboid_lines.specs.Lines.{cuboids_text}
 use Rattle.desc_checks.specs.declared.kind.DescFault.{DescFault}
+use Rattle.fault_lines.specs.Files.{TellsLongerAt, TellsNothingAt, most_bytes}
+use Rattle.fault_lines.specs.Lines.{Appends, AppendsAll, read_fault_line, too_large_line}
+use Rattle.fault_lines.specs.Tables.{bad_table_line}
 use Rattle.outside.specs.Contents.{IsLongerAt}
 use Rattle.outside.specs.Written.{AppendsPart}
 use Rattle.table_reader.specs.declared.fault.TableFault.{TableFault}
@@ -43,7 +46,7 @@ IsMisdescribed words o =
 
 abbrev pub IsFaulty : List (String Global) → Outside → Type 0
 IsFaulty words o =
-    (path : List ℕ) × (fault : TableFault) × IsFold words path × FaultyAt o.contents path fault × HasLine o (bad_table_line path fault)
+    (path : List ℕ) × (fault : TableFault) × IsFold words path × FaultyAt o.contents path fault × HasLine o (bad_table_line fold_names path fault)
 
 abbrev pub IsTooLarge : List (String Global) → Outside → Type 0
 IsTooLarge words o = (path : List ℕ) × IsOver words path × IsLongerAt o.contents path most_bytes × HasLine o (too_large_line path)

@@ -6,9 +6,9 @@ ghost use Rattle.coordinator.specs.Runs.{IsRunOver, fault_ends, run_ends, status
 ghost use Rattle.coordinator.specs.Served.{inputs_of};
 ghost use Rattle.coordinator.specs.Stops.{AsksAmong};
 ghost use Rattle.coordinator.specs.StepOutcomes.{IsEndBy, IsUndamaged, StandsAmong};
-ghost use Rattle.cubes_plain.specs.Outputs.{bad_words_line};
 ghost use Rattle.cubes_plain.specs.Steps.{IsStepRun, files_at, sink_at};
 ghost use Rattle.cubes_plain.specs.Words.{IsNoStep, IsStep};
+ghost use Rattle.fault_lines.specs.Lines.{bad_words_line};
 ghost use Rattle.outside.specs.Counts.{Rose};
 ghost use Rattle.outside.specs.Hands.{Fail};
 ghost use Rattle.outside.specs.Rises.{AllTell, AllTellThat, Risen, TellSame, entries_of};
@@ -25,18 +25,17 @@ ghost use Rattle.cubes_top.specs.Words.{AreBadWords, IsNoRun, IsRunOf};
 use crate::words::script_path;
 use coordinator::{RunFault, ScriptRun, run_script};
 use cubes_plain::run_plain;
-use cubes_plain::status::{BAD_WORDS, DONE, MEMORY, READ_FAULT, WRITE_FAULT};
+use fault_lines::status::{BAD_WORDS, DONE, MEMORY, READ_FAULT, WRITE_FAULT};
 use fixed_cube::SmallWork;
 use outside::{Files, Hand, Sink, Stopper};
 use run_history::Event;
-use run_inputs::{FixedInputs, read_inputs};
-use run_refusal::refuse_inputs;
+use run_inputs::{FixedInputs, read_inputs, refuse_inputs};
 use std::alloc::Global;
 use std::sync::Wait;
 use std::thread::Threads;
 use step_task::CubeWork;
 
-/// What a run leaves: its status, one of `cubes_plain::status` or `BAD_SCRIPT`, its history, and the hands.
+/// What a run leaves: its status, one of `fault_lines::status`, its history, and the hands.
 #[derive(Drop)]
 pub struct Ran<H> {
     pub status: u8,

@@ -5,6 +5,7 @@ use Rattle.std.proofs.lemmas.List.{take_more, take-append-drop}
 use Rattle.std.proofs.lemmas.List.Concat.{flat_map-append}
 use Rattle.script_text.specs.declared.verb.Line.{Line}
 use Rattle.script_text.specs.declared.verb.Verb.{Verb}
+use Rattle.fault_lines.specs.Files.{most_bytes}
 use Rattle.fixed_script.specs.Scripts.{IsNoFixedScript}
 use Rattle.fixed_cube.specs.Form.{fact_form}
 use Rattle.outside.specs.Contents.{IsLongerAt, IsNotLongerAt, Paths, StandsAt}
@@ -13,7 +14,7 @@ use Rattle.outside.specs.declared.files.FileFault.{FileFault}
 use Rattle.outside.specs.declared.files.FileFault.TheVariants as file
 use Rattle.table_reader.specs.Tables.{IsFaultOf}
 use Rattle.table_reader.specs.declared.fault.TableFault.{TableFault}
-use Rattle.run_inputs.specs.Inputs.{IsLoadFault, IsLoadedAt, IsScriptFault, IsTableAt, IsTableFault, load_of, loads_of, most_bytes}
+use Rattle.run_inputs.specs.Inputs.{IsLoadFault, IsLoadedAt, IsScriptFault, IsTableAt, IsTableFault, load_of, loads_of}
 use Rattle.run_inputs.specs.Reading.{IsUnread}
 use Rattle.run_inputs.specs.declared.fault.InputFault.{InputFault}
 use Rattle.run_inputs.specs.declared.fault.InputFault.TheVariants.{BadScript, BadTable, ReadFault, TooLarge}

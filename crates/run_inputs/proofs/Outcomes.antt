@@ -1,16 +1,17 @@
 -- Files whose contents are told have one outcome.
-use Rattle.std.proofs.Common.{◌≡◌, ◌<◌, ◌+◌, ◌⊎◌, inl, inr, ℕ, true, false, List, [], ◌∷◌, Option, Some, None, Result, Ok, Err, IfOk, length, refl, sym, ap, ◌∙◌, subst, arith}
+use Rattle.std.proofs.Common.{◌≡◌, ◌<◌, ◌+◌, ◌⊎◌, inl, inr, ℕ, true, false, List, [], ◌∷◌, Option, Some, None, Result, Ok, Err, IfOk, refl, sym, ap, ◌∙◌, subst, arith}
 use Rattle.std.specs.List.{AllZip}
 use Rattle.cube_val.specs.declared.val.Val.{Val}
+use Rattle.fault_lines.proofs.FileFacts.{absent_is_no_file, absent_is_not_long, long_is_no_file, of_one_file}
 use Rattle.fixed_cube.specs.Form.{fact_form}
 use Rattle.fixed_script.specs.Scripts.{AreGood, IsFirstBadLine, IsFixedScript, IsNoFixedScript, is_bad_at}
-use Rattle.outside.specs.Contents.{IsLongerAt, Paths}
+use Rattle.outside.specs.Contents.{Paths}
 use Rattle.script_reader.specs.Lines.{lines_of}
 use Rattle.script_text.specs.declared.verb.Line.{Line}
 use Rattle.table_reader.specs.Tables.{IsFaultOf, IsTableOf}
 use Rattle.table_reader.specs.declared.fault.TableFault.{TableFault}
 use Rattle.table_reader.proofs.OutcomeFacts as tables
-use Rattle.run_inputs.specs.Inputs.{AreInputsAt, IsFileAt, IsInputFault, IsLoadFault, IsLoadedAt, IsScriptAt, IsScriptFault, IsTableAt, IsTableFault, loads_of, most_bytes}
+use Rattle.run_inputs.specs.Inputs.{AreInputsAt, IsInputFault, IsLoadFault, IsLoadedAt, IsScriptAt, IsScriptFault, IsTableAt, IsTableFault, loads_of}
 use Rattle.run_inputs.specs.Laws.{FilesGiveOneOutcome, IsAbsent, TellsOutcomeAt}
 use Rattle.run_inputs.specs.Reading.{AnswersAs}
 use Rattle.run_inputs.specs.declared.fault.InputFault.{InputFault}
@@ -19,35 +20,6 @@ use Rattle.run_inputs.specs.declared.fault.InputRefusal.{InputRefusal}
 use Rattle.run_inputs.specs.declared.fault.InputRefusal.TheVariants.{Fault, Memory}
 use Rattle.run_inputs.specs.declared.inputs.FixedInputs.{FixedInputs}
 use Rattle.run_inputs.specs.declared.inputs.LoadedTable.{LoadedTable}
-
-module _ (paths : Paths) (path : List ℕ) where
-  -- what stands at a path is one list of bytes
-  same_bytes : (P Q : List ℕ → Type 0) (f : IsFileAt (Some paths) path P) (g : IsFileAt (Some paths) path Q) → g.bytes ≡ f.bytes
-  same_bytes P Q f g =
-      let both : Some g.bytes ≡ Some f.bytes = sym g.stands ∙ f.stands in
-      cc
-
-  pub long_is_no_file : (P : List ℕ → Type 0) → IsFileAt (Some paths) path P → IsLongerAt (Some paths) path most_bytes → ⊥
-  long_is_no_file P f (bytes, there, long) =
-      let both : Some bytes ≡ Some f.bytes = sym there ∙ f.stands in
-      let same : bytes ≡ f.bytes = cc in
-      let l : length bytes ≡ length f.bytes = ap length same in
-      let s = f.short in
-      omega arith
-
-  pub absent_is_no_file : (P : List ℕ → Type 0) → IsFileAt (Some paths) path P → paths path ≡ None → ⊥
-  absent_is_no_file P f none =
-      let both : Some f.bytes ≡ None = sym f.stands ∙ none in
-      cc
-
-  pub absent_is_not_long : IsLongerAt (Some paths) path most_bytes → paths path ≡ None → ⊥
-  absent_is_not_long (bytes, there, long) none =
-      let both : Some bytes ≡ None = sym there ∙ none in
-      cc
-
-  -- two facts of one file's bytes
-  pub of_one_file : (P Q : List ℕ → Type 0) (R : Type 0) → ((bytes : List ℕ) → P bytes → Q bytes → R) → IsFileAt (Some paths) path P → IsFileAt (Some paths) path Q → R
-  of_one_file P Q R h f g = h f.bytes f.holds (subst Q (same_bytes P Q f g) g.holds)
 
 -- ---- scripts
 

@@ -1,11 +1,12 @@
 -- What a run is given, and the first fault of the files where they give nothing.
-use Rattle.std.specs.Prelude.{◌≡◌, ◌≤◌, ◌⊎◌, ℕ, List, [], ◌∷◌, length, Option}
+use Rattle.std.specs.Prelude.{◌≡◌, ◌⊎◌, ℕ, List, [], ◌∷◌, Option}
 use Rattle.std.specs.List.{AllZip, flat_map}
 use Rattle.cube_val.specs.declared.val.Val.{Val}
+use Rattle.fault_lines.specs.Files.{IsFileAt, most_bytes}
 use Rattle.fixed_cube.specs.Columns.{fact_columns, row_limit}
 use Rattle.fixed_cube.specs.Form.{fact_form}
 use Rattle.fixed_script.specs.Scripts.{IsFixedScript, IsNoFixedScript}
-use Rattle.outside.specs.Contents.{IsLongerAt, IsNotLongerAt, Paths, StandsAt}
+use Rattle.outside.specs.Contents.{IsLongerAt, IsNotLongerAt, Paths}
 use Rattle.script_text.specs.declared.verb.Line.{Line}
 use Rattle.script_text.specs.declared.verb.Verb.{Verb}
 use Rattle.script_text.specs.declared.verb.Verb.TheVariants as verb
@@ -15,17 +16,6 @@ use Rattle.run_inputs.specs.declared.fault.InputFault.{InputFault}
 use Rattle.run_inputs.specs.declared.fault.InputFault.TheVariants.{BadScript, BadTable, ReadFault, TooLarge}
 use Rattle.run_inputs.specs.declared.inputs.FixedInputs.{FixedInputs}
 use Rattle.run_inputs.specs.declared.inputs.LoadedTable.{LoadedTable}
-
--- the most bytes of a file: 64 MiB
-abbrev pub most_bytes : ℕ
-most_bytes = 67_108_864
-
--- the bytes of a file are so, and no more than a file may have; they stand at the path, where the contents are told
-pub record IsFileAt (contents : Option Paths) (path : List ℕ) (P : List ℕ → Type 0) : Type 0 where
-  pub bytes : List ℕ
-  pub stands : StandsAt contents path bytes
-  pub short : length bytes ≤ most_bytes
-  pub holds : P bytes
 
 abbrev pub IsScriptAt : Option Paths → List ℕ → List Line → Type 0
 IsScriptAt contents path script = IsFileAt contents path (λ bytes. IsFixedScript bytes script)

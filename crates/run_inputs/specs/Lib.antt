@@ -1,3 +1,4 @@
 pub mod Inputs
-pub mod Reading
 pub mod Laws
+pub mod Lines
+pub mod Reading

@@ -1,10 +1,11 @@
 // One file.
 
 ghost use Rattle.std.specs.Prelude.{◌≡◌, ◌≤◌, ◌⊎◌, ℕ, List, Err, IfOk, length};
+ghost use Rattle.fault_lines.specs.Files.{most_bytes};
 ghost use Rattle.fixed_cube.specs.Form.{fact_form};
 ghost use Rattle.outside.specs.Contents.{IsLongerAt, IsNotLongerAt, StandsAt};
 ghost use Rattle.outside.specs.Counts.{Rose};
-ghost use Rattle.run_inputs.specs.Inputs.{IsScriptAt, IsScriptFault, IsTableAt, IsTableFault, most_bytes};
+ghost use Rattle.run_inputs.specs.Inputs.{IsScriptAt, IsScriptFault, IsTableAt, IsTableFault};
 ghost use Rattle.run_inputs.specs.Reading.{IsUnread};
 ghost use Rattle.run_inputs.specs.declared.fault.InputFault.{InputFault};
 ghost use Rattle.step_fields.specs.Fits.{FitsRows};
@@ -12,14 +13,12 @@ ghost use Rattle.fixed_cube.specs.Columns.{fact_columns, row_limit};
 
 use crate::fault::{InputFault, InputRefusal};
 use cube_val::{Table, TableForm};
+use fault_lines::MOST_BYTES;
 use fixed_script::{FixedScriptRefusal, read_fixed_script};
 use outside::{FileFault, Files};
 use script_text::{PathText, Script};
 use std::alloc::Global;
 use table_reader::{TableFault, TableRefusal, read_table};
-
-/// The most bytes of a file: 64 MiB.
-const MOST_BYTES: u64 = 64 * 1024 * 1024;
 
 // Why the file at a path was not read.
 fn unread(alloc: Global, path: &str, fault: FileFault) -> InputRefusal

@@ -1,7 +1,7 @@
 // The step of a task, by the command `step` over files in memory.
 
 use cubes_plain::run_plain;
-use cubes_plain::status::{DONE, MEMORY};
+use fault_lines::status::{DONE, MEMORY};
 use outside::{Entry, MemoryFiles, MemorySink};
 use std::alloc::{AllocError, Global};
 use std::io;

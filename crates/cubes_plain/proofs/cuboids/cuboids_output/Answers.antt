@@ -1,7 +1,5 @@
-use Rattle.cubes_plain.proofs.FileFacts.{misdescribed_at}
 use Rattle.cubes_plain.proofs.cuboids.cuboids_output.Goals as goal
 
 pub returns-clause-bad : goal.returns-clause-bad
 returns-clause-bad g c f same =
-    misdescribed_at (g.F.Files.contents c.args.files.now) c.args.path.now c.in-Ok.bytes.items f c.in-Ok.ensures.bytes c.in-Ok.ensures.limited
-    (rw c.as_slice.ensures.value at (c.text_of_bytes.ensures.bad f same))
+    record { bytes = c.in-Ok.bytes.items; stands = c.in-Ok.ensures.bytes; short = c.in-Ok.ensures.limited; holds = rw c.as_slice.ensures.value at (c.text_of_bytes.ensures.bad f same) }

@@ -1,6 +1,6 @@
 use Rattle.std.proofs.Common.{◌≡◌, ℕ, List, ◌∙◌, subst}
 use Rattle.cubes_plain.specs.Descriptors.{bad_descriptor_line}
-use Rattle.cubes_plain.specs.Outputs.{Appends}
+use Rattle.fault_lines.specs.Lines.{Appends}
 use Rattle.cubes_plain.proofs.cuboids.refuse_descriptor.Goals as goal
 
 pub returns-in-Ok-clause-line : goal.returns-in-Ok-clause-line

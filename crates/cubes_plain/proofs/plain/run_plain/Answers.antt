@@ -1,7 +1,8 @@
 use Rattle.std.proofs.Common.{List, ℕ, ap, subst, sym, Ok, Err, inl, inr}
 use Rattle.std.specs.String.{string_bytes}
 use Rattle.cubes_plain.specs.Descriptors.{TellsDescribedAt, TellsMisdescribedAt}
-use Rattle.cubes_plain.specs.Files.{TellsAcceptedAt, TellsFaultyAt, TellsLongerAt, TellsNothingAt}
+use Rattle.cubes_plain.specs.Files.{TellsAcceptedAt, TellsFaultyAt}
+use Rattle.fault_lines.specs.Files.{TellsLongerAt, TellsNothingAt}
 use Rattle.cubes_plain.specs.Steps.{IsStepRun, files_at, sink_at}
 use Rattle.cubes_plain.specs.Words.{IsCuboids, IsFold, IsStep}
 use Rattle.cubes_plain.proofs.StepFacts.{step_memory}

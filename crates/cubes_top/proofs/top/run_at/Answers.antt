@@ -7,7 +7,7 @@ use Rattle.coordinator.proofs.Asked.{asks-none, requests-none}
 use Rattle.coordinator.proofs.HandAgreementFacts.{none-all}
 use Rattle.outside.specs.Rises.{Risen, entries_of}
 use Rattle.run_inputs.specs.declared.inputs.FixedInputs.{FixedInputs}
-use Rattle.run_refusal.specs.Lines.{Refuses}
+use Rattle.run_inputs.specs.Lines.{Refuses}
 use Rattle.cubes_top.specs.Outcomes.{EndsAs}
 use Rattle.cubes_top.specs.Ties.{HaveCalled, stops_over}
 use Rattle.cubes_top.proofs.Given.{given-by}

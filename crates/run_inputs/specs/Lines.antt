@@ -1,29 +1,19 @@
--- The statuses and the lines of faults.
-use Rattle.std.specs.Prelude.{◌≡◌, ◌⊎◌, ℕ, zero, suc, List, [], ◌∷◌, ◌++◌, codes, Option, Some, None}
+-- The statuses and the lines of the faults of inputs.
+use Rattle.std.specs.Prelude.{◌≡◌, ◌⊎◌, ℕ, List, [], ◌∷◌, ◌++◌, codes, Option}
 use Rattle.std.specs.Fmt.{decimal}
-use Rattle.cubes_plain.specs.Outputs.{Appends, read_fault_line, too_large_line}
-use Rattle.cubes_plain.specs.Tables.{kind_text}
+use Rattle.fault_lines.specs.Lines.{Appends, read_fault_line, too_large_line}
+use Rattle.fault_lines.specs.Tables.{bad_table_line}
 use Rattle.run_inputs.specs.declared.fault.InputFault.{InputFault}
 use Rattle.run_inputs.specs.declared.fault.InputFault.TheVariants.{BadScript, BadTable, ReadFault, TooLarge}
 use Rattle.run_inputs.specs.declared.fault.InputRefusal.{InputRefusal}
 use Rattle.run_inputs.specs.declared.fault.InputRefusal.TheVariants.{Fault, Memory}
-use Rattle.table_reader.specs.declared.fault.TableFault.{TableFault}
 
--- the name of a column of the fact table
-abbrev pub column_text : Option ℕ → List ℕ
-column_text None = codes "-"
-column_text (Some zero) = codes "DT"
-column_text (Some (suc zero)) = codes "D1"
-column_text (Some (suc (suc zero))) = codes "D2"
-column_text (Some (suc (suc (suc n)))) = codes "M"
+-- the names of the fact table's columns
+abbrev pub fact_names : List (List ℕ)
+fact_names = codes "DT" ∷ codes "D1" ∷ codes "D2" ∷ codes "M" ∷ []
 
 abbrev pub bad_script_line : ℕ → List ℕ
 bad_script_line line = codes "fault: BadScript " ++ (decimal line ++ 10 ∷ [])
-
--- the path, the number of the record, the column or a dash, and the kind
-abbrev pub bad_table_line : List ℕ → TableFault → List ℕ
-bad_table_line path fault =
-    codes "fault: BadTable " ++ (path ++ 32 ∷ (decimal fault.row ++ 32 ∷ (column_text fault.column ++ 32 ∷ (kind_text fault.kind ++ 10 ∷ []))))
 
 -- the status of a fault, and its line
 abbrev pub status_of : InputFault → ℕ
@@ -36,7 +26,7 @@ abbrev pub line_of : InputFault → List ℕ
 line_of (ReadFault path) = read_fault_line path
 line_of (TooLarge path) = too_large_line path
 line_of (BadScript line) = bad_script_line line
-line_of (BadTable path fault) = bad_table_line path fault
+line_of (BadTable path fault) = bad_table_line fact_names path fault
 
 -- the status, and what was appended: the line of the fault with its status, and nothing with that of want of memory
 pub record Answers (faults_old faults_new : ℕ) (old new : Option (List ℕ)) (fault : InputFault) (status : ℕ) : Type 0 where

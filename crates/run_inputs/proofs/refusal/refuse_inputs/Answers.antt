@@ -1,8 +1,8 @@
 use Rattle.std.proofs.Common.{◌∙◌, ap}
 use Rattle.run_inputs.specs.declared.fault.InputFault.TheVariants.{BadTable, ReadFault, TooLarge}
 use Rattle.run_inputs.specs.declared.fault.InputRefusal.TheVariants.{Fault}
-use Rattle.run_refusal.proofs.Refusals.{refused_as}
-use Rattle.run_refusal.proofs.refusal.refuse_inputs.Goals as goal
+use Rattle.run_inputs.proofs.Refusals.{refused_as}
+use Rattle.run_inputs.proofs.refusal.refuse_inputs.Goals as goal
 
 pub returns-in-Fault-ReadFault : goal.returns-in-Fault-ReadFault
 returns-in-Fault-ReadFault g c =

@@ -3,7 +3,7 @@ use Rattle.std.proofs.Common.{◌≡◌, ℕ, List, Option, sym, subst}
 use Rattle.run_inputs.specs.declared.fault.InputFault.{InputFault}
 use Rattle.run_inputs.specs.declared.fault.InputRefusal.{InputRefusal}
 use Rattle.run_inputs.specs.declared.fault.InputRefusal.TheVariants.{Fault}
-use Rattle.run_refusal.specs.Lines.{Answers, Refuses}
+use Rattle.run_inputs.specs.Lines.{Answers, Refuses}
 
 pub refused_as : (faults_old faults_new : ℕ) (old new : Option (List ℕ)) (refusal : InputRefusal) (fault : InputFault) (status : ℕ) → refusal ≡ Fault fault
     → Answers faults_old faults_new old new fault status → Refuses faults_old faults_new old new refusal status

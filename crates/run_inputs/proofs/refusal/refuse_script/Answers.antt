@@ -1,7 +1,7 @@
 use Rattle.std.proofs.Common.{◌≡◌, ℕ, List, ◌∙◌, subst}
-use Rattle.cubes_plain.specs.Outputs.{Appends}
-use Rattle.run_refusal.specs.Lines.{bad_script_line}
-use Rattle.run_refusal.proofs.refusal.refuse_script.Goals as goal
+use Rattle.fault_lines.specs.Lines.{Appends}
+use Rattle.run_inputs.specs.Lines.{bad_script_line}
+use Rattle.run_inputs.proofs.refusal.refuse_script.Goals as goal
 
 pub returns-in-Ok-clause-line : goal.returns-in-Ok-clause-line
 returns-in-Ok-clause-line g c same =

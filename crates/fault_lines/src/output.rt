@@ -1,7 +1,7 @@
 // What every command writes: its output, or one fault line.
 
 ghost use Rattle.std.specs.Prelude.{◌≡◌, ◌≢◌, ◌⊎◌, ◌++◌, ◌∷◌, [], codes};
-ghost use Rattle.cubes_plain.specs.Outputs.{Appends, AppendsAll};
+ghost use Rattle.fault_lines.specs.Lines.{Appends, AppendsAll};
 ghost use Rattle.outside.specs.Counts.{Rose};
 ghost use Rattle.outside.specs.Written.{AppendsPart};
 

@@ -18,6 +18,9 @@ pub const WRITE_FAULT: u8 = 4;
 /// A step was stopped before its product was written.
 pub const STOPPED: u8 = 5;
 
+/// A file that was read is no script.
+pub const BAD_SCRIPT: u8 = 6;
+
 /// A file that was read is no descriptor.
 pub const BAD_DESCRIPTOR: u8 = 7;
 

@@ -1,11 +1,8 @@
 -- What a command writes.
 use Rattle.std.specs.Prelude.{◌≡◌, ◌∷◌, [], ◌++◌, ℕ, List, Option, codes}
 use Rattle.std.specs.Io.KnownBytes.{append_known}
-use Rattle.std.specs.Fmt.{decimal}
 use Rattle.outside.specs.Counts.{Rose}
 use Rattle.outside.specs.Written.{AppendsPart}
-use Rattle.table_reader.specs.declared.fault.TableFault.{TableFault}
-use Rattle.cubes_plain.specs.Tables.{column_text, kind_text}
 
 -- all of the text was appended to what was written, where that is told
 abbrev pub AppendsAll : Option (List ℕ) → Option (List ℕ) → List ℕ → Type 0
@@ -31,8 +28,3 @@ stopped_line = codes "fault: Stopped" ++ 10 ∷ []
 
 abbrev pub bad_task_line : List ℕ
 bad_task_line = codes "fault: BadTask" ++ 10 ∷ []
-
--- the path, the number of the record, the column or a dash, and the kind
-abbrev pub bad_table_line : List ℕ → TableFault → List ℕ
-bad_table_line path fault =
-    codes "fault: BadTable " ++ (path ++ 32 ∷ (decimal fault.row ++ 32 ∷ (column_text fault.column ++ 32 ∷ (kind_text fault.kind ++ 10 ∷ []))))
