@@ -72,12 +72,63 @@ fn bound_lits(alloc: Global, lits: &[SqlLit]) -> Result<Items<Lit>, AllocError>
     Ok(bound)
 }
 
-fn between(alloc: Global, term: Term, low: Lit, high: Lit) -> Result<Cond, AllocError>
-    ensures { IfOk result (λ c. c ≡ Cond.And (Cond.Compare term Test.Ge low) (Cond.Compare term Test.Le high)) }
+// Two trees, each in a box of its own.
+fn both_boxed<T: Drop>(alloc: Global, left: T, right: T) -> Result<(Boxed<T>, Boxed<T>), AllocError>
+    ensures { IfOk result (λ both. both ≡ (left, right)) }
 {
-    let from = Boxed::new(alloc, Cond::Compare(term, Test::Ge, low))?;
-    let to = Boxed::new(alloc, Cond::Compare(term, Test::Le, high))?;
-    Ok(Cond::And(from, to))
+    let left = Boxed::new(alloc, left)?;
+    Ok((left, Boxed::new(alloc, right)?))
+}
+
+fn and(alloc: Global, left: Cond, right: Cond) -> Result<Cond, AllocError>
+    ensures { IfOk result (λ c. c ≡ Cond.And left right) }
+{
+    let (left, right) = both_boxed(alloc, left, right)?;
+    Ok(Cond::And(left, right))
+}
+
+fn or(alloc: Global, left: Cond, right: Cond) -> Result<Cond, AllocError>
+    ensures { IfOk result (λ c. c ≡ Cond.Or left right) }
+{
+    let (left, right) = both_boxed(alloc, left, right)?;
+    Ok(Cond::Or(left, right))
+}
+
+fn not(alloc: Global, inner: Cond) -> Result<Cond, AllocError>
+    ensures { IfOk result (λ c. c ≡ Cond.Not inner) }
+{
+    Ok(Cond::Not(Boxed::new(alloc, inner)?))
+}
+
+// The literals of a BETWEEN.
+fn bound_ends(low: &SqlLit, high: &SqlLit) -> Result<(Lit, Lit), AllocError>
+    ensures { IfOk result (λ ends. ends ≡ (bound_lit low.now, bound_lit high.now)) }
+{
+    let low = bound_lit(low)?;
+    Ok((low, bound_lit(high)?))
+}
+
+fn between(alloc: Global, term: Term, low: &SqlLit, high: &SqlLit) -> Result<Cond, AllocError>
+    ensures { IfOk result (λ c. c ≡ Cond.And (Cond.Compare term Test.Ge (bound_lit low.now)) (Cond.Compare term Test.Le (bound_lit high.now))) }
+{
+    let (low, high) = bound_ends(low, high)?;
+    and(
+        alloc,
+        Cond::Compare(term, Test::Ge, low),
+        Cond::Compare(term, Test::Le, high),
+    )
+}
+
+fn compared(term: Term, test: Test, lit: &SqlLit) -> Result<Cond, AllocError>
+    ensures { IfOk result (λ c. c ≡ Cond.Compare term test (bound_lit lit.now)) }
+{
+    Ok(Cond::Compare(term, test, bound_lit(lit)?))
+}
+
+fn any_of(alloc: Global, term: Term, lits: &[SqlLit]) -> Result<Cond, AllocError>
+    ensures { IfOk result (λ c. c ≡ Cond.AnyOf term (map bound_lit lits.now)) }
+{
+    Ok(Cond::AnyOf(term, bound_lits(alloc, lits)?))
 }
 
 fn bound_cond(
@@ -91,32 +142,24 @@ fn bound_cond(
 {
     match cond {
         SqlCond::Compare(term, test, lit) => {
-            let lit = bound_lit(lit)?;
-            Ok(Cond::Compare(bound_term(scope, aggs, term), bound_test(*test), lit))
+            compared(bound_term(scope, aggs, term), bound_test(*test), lit)
         }
         SqlCond::AnyOf(term, lits) => {
-            let lits = bound_lits(alloc, lits.as_slice())?;
-            Ok(Cond::AnyOf(bound_term(scope, aggs, term), lits))
+            any_of(alloc, bound_term(scope, aggs, term), lits.as_slice())
         }
         SqlCond::Between(term, low, high) => {
-            let (low, high) = (bound_lit(low)?, bound_lit(high)?);
             between(alloc, bound_term(scope, aggs, term), low, high)
         }
         SqlCond::IsNull(term) => Ok(Cond::IsNull(bound_term(scope, aggs, term))),
         SqlCond::And(a, b) => {
             let a = bound_cond(alloc, scope, aggs, a.get())?;
-            let b = bound_cond(alloc, scope, aggs, b.get())?;
-            Ok(Cond::And(Boxed::new(alloc, a)?, Boxed::new(alloc, b)?))
+            and(alloc, a, bound_cond(alloc, scope, aggs, b.get())?)
         }
         SqlCond::Or(a, b) => {
             let a = bound_cond(alloc, scope, aggs, a.get())?;
-            let b = bound_cond(alloc, scope, aggs, b.get())?;
-            Ok(Cond::Or(Boxed::new(alloc, a)?, Boxed::new(alloc, b)?))
+            or(alloc, a, bound_cond(alloc, scope, aggs, b.get())?)
         }
-        SqlCond::Not(a) => {
-            let a = bound_cond(alloc, scope, aggs, a.get())?;
-            Ok(Cond::Not(Boxed::new(alloc, a)?))
-        }
+        SqlCond::Not(a) => not(alloc, bound_cond(alloc, scope, aggs, a.get())?),
     }
 }
 
