@@ -16,6 +16,6 @@ mod read;
 
 pub use examples::worked_logs;
 pub use fault::LogFault;
-pub use laws::logs_are_one;
+pub use laws::{logs_are_one, opening_again_is_opening_once};
 pub use log::Log;
 pub use read::read_log;

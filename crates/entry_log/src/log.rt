@@ -4,6 +4,7 @@ ghost use Rattle.std.specs.Prelude.{◌≡◌, ◌≢◌, ◌⊎◌, ◌++◌, �
 ghost use Rattle.std.specs.Int.{w64};
 ghost use Rattle.byte_frame.specs.Frames.{frame_text};
 ghost use Rattle.byte_frame.specs.Spelling.{sized_text};
+ghost use Rattle.disk_image.specs.Changes.{Torn, written};
 ghost use Rattle.disk_image.specs.Crashes.{CrashCondition, IsDurable};
 ghost use Rattle.entry_log.specs.Kept.{IsBeforeOrAfter, IsEmptyOr, Keeps};
 ghost use Rattle.entry_log.specs.Logs.{FitsBody, HasEntries, entry_frame};
@@ -12,7 +13,7 @@ ghost use Rattle.outside.specs.Counts.{Rose};
 use crate::fault::LogFault;
 use crate::kept::write_kept;
 use byte_frame::{FrameHead, put_bytes, put_frame, put_u8, put_u64};
-use disk_image::Disk;
+use disk_image::{Disk, DiskFault};
 use std::alloc::{AllocError, Global};
 use std::marker::Model;
 
@@ -46,6 +47,26 @@ fn staged(alloc: Global, body: &[u8]) -> Result<Vec<u8>, AllocError>
     put_bytes(&mut staged, frame.as_slice())?;
     put_u8(&mut staged, 0)?;
     Ok(staged)
+}
+
+// Keeps a staged entry behind the closed gate, where it doesn't count yet.
+fn stage<D: Disk>(disk: &mut D, behind: u64, entry: &[u8]) -> Result<(), DiskFault>
+    ensures kept { OnOk result ((file : List ℕ) → D.content disk.old ≡ Some file → (D.content disk.new ≡ Some (written behind entry.now file)) × IsDurable (written behind entry.now file) (D.crash_image disk.new)) }
+    ensures crash { (file : List ℕ) → D.content disk.old ≡ Some file → IsDurable file (D.crash_image disk.old) → CrashCondition D.clock D.image_since disk.old disk.new (Torn (length file) behind (length entry.now) file) }
+    ensures failed { IsErrOf result DiskFault.Failed → Rose (D.faults disk.old) (D.faults disk.new) }
+    ensures faults { D.faults disk.old ≤ D.faults disk.new }
+{
+    write_kept(disk, behind, entry)
+}
+
+// Opens the gate, so that the entry behind it counts, and keeps it open.
+fn unlock<D: Disk>(disk: &mut D, gate: u64) -> Result<(), DiskFault>
+    ensures kept { OnOk result ((file : List ℕ) → D.content disk.old ≡ Some file → (D.content disk.new ≡ Some (written gate (1 ∷ []) file)) × IsDurable (written gate (1 ∷ []) file) (D.crash_image disk.new)) }
+    ensures crash { (file : List ℕ) → D.content disk.old ≡ Some file → IsDurable file (D.crash_image disk.old) → CrashCondition D.clock D.image_since disk.old disk.new (Torn (length file) gate 1 file) }
+    ensures failed { IsErrOf result DiskFault.Failed → Rose (D.faults disk.old) (D.faults disk.new) }
+    ensures faults { D.faults disk.old ≤ D.faults disk.new }
+{
+    write_kept(disk, gate, &[1])
 }
 
 impl Log {
@@ -104,8 +125,8 @@ impl Log {
         let Some(next) = self.gate.checked_add(entry.len() as u64) else {
             return Err(LogFault::Memory);
         };
-        write_kept(disk, self.gate + 1, entry.as_slice())?;
-        write_kept(disk, self.gate, &[1])?;
+        stage(disk, self.gate + 1, entry.as_slice())?;
+        unlock(disk, self.gate)?;
         self.gate = next;
         Ok(())
     }

@@ -6,7 +6,7 @@
 //! for a child, that counts rise as the traits ask, and where the files of an attempt stand. What a file, a child or
 //! standard output really holds isn't claimed.
 //!
-//! - `os_files`, `std_sink`: the files of the system and standard output.
+//! - `os_files`, `std_sink`: the files of the system and standard output. `file_disk`: one file as a disk whose power may go.
 //! - `paths`: where the files of an attempt stand: its task, its product, and the file that asks it to stop. A hand and a
 //!   stopper have them from here alone, so they agree.
 //! - `child`: how a program is started on a step, and how it ended.
@@ -14,12 +14,14 @@
 #![tactic(auto)]
 
 mod child;
+mod file_disk;
 mod os_files;
 mod os_stopper;
 mod paths;
 mod proc_hand;
 mod std_sink;
 
+pub use file_disk::FileDisk;
 pub use os_files::OsFiles;
 pub use os_stopper::OsStopper;
 pub use paths::{product_path, stop_path, task_path};
