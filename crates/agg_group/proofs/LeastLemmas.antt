@@ -1,8 +1,8 @@
 -- What the least place is.
-use Rattle.std.proofs.Common.{◌≡◌, ℕ, zero, suc, ◌+◌, ◌<◌, ◌≤◌, Bool, true, false, cond, ltb, Option, Some, None, MatchOption, refl, sym, ap, ◌∙◌, subst, inl, inr, arith, IsTrue}
+use Rattle.std.proofs.Common.{◌≡◌, ℕ, zero, suc, ◌+◌, ◌<◌, ◌≤◌, Bool, true, false, cond, ltb, Option, Some, None, MatchOption, refl, sym, ap, ◌∙◌, subst, inl, inr, arith}
 use Rattle.std.proofs.Math.Numerals.{add-one}
-use Rattle.std.proofs.lemmas.Bool.{cases_Bool, cases_eq, ltb-true, ltb-false, false≢true}
-use Rattle.agg_group.specs.Least.{beats, better, least_place, IsLeastPlace}
+use Rattle.std.proofs.lemmas.Bool.{cases_eq, ltb-true, ltb-false, false≢true}
+use Rattle.agg_group.specs.Least.{better, least_place, IsLeastPlace}
 
 -- what an answer for the places below n says
 abbrev Says : (ℕ → Bool) → (ℕ → ℕ) → ℕ → Option ℕ → Type 0

@@ -1,6 +1,10 @@
 pub mod SetLemmas
 pub mod MaskLemmas
 pub mod ListLemmas
-pub mod BuiltLemmas
-pub mod GivenLemmas
 pub mod LeastLemmas
+pub mod RepeatLemmas
+pub mod UnitLemmas
+pub mod GroupLemmas
+pub mod BuiltLemmas
+pub mod FollowLemmas
+pub mod ManyLemmas

@@ -1,11 +1,11 @@
 -- Lemmas on lists of lists, and on a list's repeats.
-use Rattle.std.proofs.Common.{◌≡◌, ℕ, zero, suc, ◌+◌, ◌<◌, ◌≤◌, Bool, true, false, cond, ◌&&◌, ◌||◌, List, [], ◌∷◌, ◌++◌, map, length, get_or, take, drop, refl, sym, ap, ap₂, ◌∙◌, subst, inl, inr, arith, count_by, All}
+use Rattle.std.proofs.Common.{◌≡◌, ℕ, zero, suc, ◌+◌, ◌<◌, ◌≤◌, Bool, true, false, cond, ◌&&◌, ◌||◌, List, [], ◌∷◌, ◌++◌, map, length, get_or, take, drop, refl, sym, ap, ◌∙◌, subst, inl, inr, arith, count_by, All}
 use Rattle.std.specs.List.{list_all, list_any, range_with_len}
 use Rattle.std.proofs.lemmas.List.{at_drop_more, map_more, get_or-map, length-map}
 use Rattle.std.proofs.lemmas.List.Sums.{sum_by-cons, sum_by-append, sum_by_push}
 use Rattle.std.proofs.lemmas.Bool.{cases_eq, or_left, or_right, or_from}
 use Rattle.smallvec.specs.SmallVec.{SmallVec}
-use Rattle.agg_group.specs.Sets.{dimensions, is_among}
+use Rattle.agg_group.specs.Sets.{is_among}
 use Rattle.agg_group.specs.Rules.{Rules, rule_lists, lists_of}
 use Rattle.agg_group.specs.Faults.{has_repeat, is_in_two, overlaps}
 
@@ -66,3 +66,9 @@ all_lists P lists h = λ k d low.
     let inside : k < length lists = omega (arith, length-map lists (λ (l : SmallVec ℕ). l.items)) in
     let none : SmallVec ℕ = record { items = []; capacity = 0 } in
     subst P (sym (get_or-map (λ (l : SmallVec ℕ). l.items) lists k none d inside)) (h k none inside)
+
+-- .. and of one of them
+pub one_list : (P : List ℕ → Type 0) (lists : List (SmallVec ℕ)) (i : ℕ) (x : SmallVec ℕ) → i < length lists → x ≡ get_or lists i x → All P (lists_of lists) → P x.items
+one_list P lists i x inside is h =
+    let low : i < length (lists_of lists) = omega (arith, length-map lists (λ (l : SmallVec ℕ). l.items)) in
+    subst P (get_or-map (λ (l : SmallVec ℕ). l.items) lists i x [] inside ∙ ap (λ (l : SmallVec ℕ). l.items) (sym is)) (h i [] low)

@@ -1,17 +1,19 @@
 -- Lemmas on a mask's bits.
-use Rattle.std.proofs.Common.{◌≡◌, ℕ, zero, suc, ◌+◌, ◌*◌, ◌/◌, ◌%◌, ◌^◌, ◌<◌, ◌≤◌, ◌≢◌, min, Bool, true, false, cond, eqb, bit_and, bit_or, List, [], ◌∷◌, refl, sym, ap, ap₂, ◌∙◌, inl, inr, arith, Decides, IsTrue, count_by, count_ones}
+use Rattle.std.proofs.Common.{◌≡◌, ℕ, zero, suc, ◌+◌, ◌/◌, ◌%◌, ◌^◌, ◌<◌, ◌≤◌, min, max, Bool, true, false, ◌||◌, cond, eqb, bit_and, List, [], ◌∷◌, refl, sym, ap, ap₂, ◌∙◌, inl, inr, arith, Decides, count_by, count_ones, Option, Some, None}
 use Rattle.std.specs.Int.{bit_at}
 use Rattle.std.specs.Int.Count.{ones_step, ones-le}
 use Rattle.std.specs.List.{range_with_len}
 use Rattle.std.proofs.Math.Nat.{pow-suc}
 use Rattle.std.proofs.Math.Numerals.{add-one}
-use Rattle.std.proofs.lemmas.Bool.{cases_eq, eqb-true, eq-eqb}
+use Rattle.std.proofs.lemmas.Bool.{cases_eq, eqb-true, eq-eqb, ne_eqb, or_left, le-leb, leb-true}
 use Rattle.std.proofs.lemmas.List.Sums.{sum_by-cons}
 use Rattle.std.proofs.lemmas.Bool.Decides.{Decides-eqb, Decides-like, same_from_decides}
-use Rattle.std.proofs.lemmas.Nat.Bits.{bit_at_and, bit_at-lt, bit_at-zero, bit_at_lowest, bit_at-suc, same_from_bits, bit_at_above}
+use Rattle.std.proofs.lemmas.Nat.Bits.{bit_at_and, bit_at-lt, bit_at-zero, bit_at_lowest, bit_at-suc, same_from_bits, bit_at_above, bit_at_or, bit_at-pow_same, bit_at-pow_other}
 use Rattle.agg_group.specs.declared.mask.Mask.{Mask}
-use Rattle.agg_group.specs.Sets.{dimensions, is_subset}
+use Rattle.agg_group.specs.Sets.{dimensions, is_among, size_of}
 use Rattle.agg_group.specs.Mask.{has, count_of, is_within, IsWithin}
+use Rattle.agg_group.specs.Rules.{IsCapped}
+use Rattle.agg_group.specs.Units.{joined, mask_of, is_capped}
 use Rattle.agg_group.proofs.SetLemmas.{subset_decides}
 
 -- no mask has a dimension above 63
@@ -75,3 +77,73 @@ count_is (suc k) n h =
 pub ones_are : (m : Mask) → m.0 < 2 ^ 64 → count_ones m.0 ≡ count_of m
 unfolding count_of ones_among
 ones_are m fits = count_is 64 m.0 fits
+
+-- ---- masks as sets
+same_bits : (x y : ℕ) → x < 2 → y < 2 → eqb x 1 ≡ eqb y 1 → x ≡ y
+same_bits x y hx hy h =
+    elim (cases_eq x 1) [
+      | inl e ↦ e ∙ sym (eqb-true y 1 (sym h ∙ eq-eqb x 1 e))
+      | inr nx ↦ elim (cases_eq y 1) [ inl e ↦ absurd (nx (eqb-true x 1 (h ∙ eq-eqb y 1 e))) | inr ny ↦ omega arith ]
+    ]
+
+-- masks with the same dimensions are equal
+pub mask_same : (a b : Mask) → ((d : ℕ) → has a d ≡ has b d) → a ≡ b
+mask_same a b h =
+    let mask : ℕ → Mask = λ n. record { 0 = n } in
+    ap mask (same_from_bits a.0 b.0 (λ d. same_bits (bit_at a.0 d) (bit_at b.0 d) (bit_at-lt a.0 d) (bit_at-lt b.0 d) (h d)))
+
+or_of_bits : (x y : ℕ) → x < 2 → y < 2 → eqb (max x y) 1 ≡ (eqb x 1 || eqb y 1)
+or_of_bits x y hx hy =
+    elim (cases_eq x 1) [
+      | inl e ↦ eq-eqb (max x y) 1 (omega arith) ∙ sym (or_left (eqb x 1) (eqb y 1) (eq-eqb x 1 e))
+      | inr ne ↦
+          (let same : max x y ≡ y = omega arith in
+          ap (λ k. eqb k 1) same ∙ ap (λ b. b || eqb y 1) (sym (ne_eqb x 1 ne)))
+    ]
+
+pub has-joined : (a b : Mask) (d : ℕ) → has (joined a b) d ≡ (has a d || has b d)
+has-joined a b d =
+    ap (λ x. eqb x 1) (bit_at_or a.0 b.0 d) ∙ or_of_bits (bit_at a.0 d) (bit_at b.0 d) (bit_at-lt a.0 d) (bit_at-lt b.0 d)
+
+has_single : (x d : ℕ) → has (record { 0 = 2 ^ x }) d ≡ eqb x d
+has_single x d =
+    elim (cases_eq d x) [
+      | inl e ↦ ap (λ k. eqb (bit_at (2 ^ x) k) 1) e ∙ eq-eqb (bit_at (2 ^ x) x) 1 (bit_at-pow_same x) ∙ sym (eq-eqb x d (sym e))
+      | inr ne ↦ ap (λ k. eqb k 1) (bit_at-pow_other x d ne) ∙ sym (ne_eqb x d (λ e. ne (sym e)))
+    ]
+
+pub has-mask_of : (ds : List ℕ) (d : ℕ) → has (mask_of ds) d ≡ is_among d ds
+has-mask_of [] d = has_none_of_zero d
+has-mask_of (x ∷ ds) d = has-joined (record { 0 = 2 ^ x }) (mask_of ds) d ∙ ap₂ (λ a b. a || b) (has_single x d) (has-mask_of ds d)
+
+pub mask_of_is : (m : Mask) (ds : List ℕ) → ((d : ℕ) → has m d ≡ is_among d ds) → m ≡ mask_of ds
+mask_of_is m ds h = mask_same m (mask_of ds) (λ d. h d ∙ sym (has-mask_of ds d))
+
+-- ---- the number of dimensions
+at_most_more : (x y : Bool) → (x ≡ true → y ≡ true) → cond x 1 0 ≤ cond y 1 0
+at_most_more true y h = let e : y ≡ true = h refl in rw e (omega arith)
+at_most_more false y h = omega arith
+
+fewer_pass : (p q : ℕ → Bool) → ((x : ℕ) → p x ≡ true → q x ≡ true) → (xs : List ℕ) → count_by p xs ≤ count_by q xs
+fewer_pass p q h [] = omega arith
+fewer_pass p q h (x ∷ xs) =
+    omega (arith, sum_by-cons (λ y. cond (p y) 1 0) x xs, sum_by-cons (λ y. cond (q y) 1 0) x xs, at_most_more (p x) (q x) (h x), fewer_pass p q h xs)
+
+-- a set within another has no more dimensions
+pub count_within : (a b : Mask) → IsWithin a b → count_of a ≤ count_of b
+unfolding count_of
+count_within a b h = fewer_pass (has a) (has b) h (dimensions 64)
+
+pub capped_within : (cap : Option ℕ) (a b : Mask) → IsWithin a b → is_capped cap b ≡ true → is_capped cap a ≡ true
+capped_within None a b h k = refl
+capped_within (Some most) a b h k = le-leb (count_of a) most (omega (arith, count_within a b h, leb-true (count_of b) most k))
+
+pub capped_says : (cap : Option ℕ) (m : Mask) → is_capped cap m ≡ true → IsCapped cap (has m)
+unfolding count_of size_of
+capped_says None m h = tt
+capped_says (Some most) m h = leb-true (count_by (has m) (dimensions 64)) most h
+
+pub capped_tested : (cap : Option ℕ) (m : Mask) → IsCapped cap (has m) → is_capped cap m ≡ true
+unfolding count_of size_of
+capped_tested None m h = refl
+capped_tested (Some most) m h = le-leb (count_by (has m) (dimensions 64)) most h

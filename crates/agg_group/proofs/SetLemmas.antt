@@ -1,9 +1,8 @@
 -- Lemmas on sets of dimensions.
-use Rattle.std.proofs.Common.{◌≡◌, ℕ, zero, suc, ◌+◌, ◌<◌, ◌≤◌, ◌≢◌, Bool, true, false, not, ◌&&◌, ◌||◌, eqb, List, [], ◌∷◌, ◌++◌, length, get_or, drop, refl, sym, ap, ap₂, ◌∙◌, inl, inr, arith, Decides, IsTrue}
-use Rattle.std.specs.List.{list_all, list_any, range_with_len}
-use Rattle.std.proofs.lemmas.List.{at_drop_more}
-use Rattle.std.proofs.lemmas.Bool.{cases_eq, cases_lt, and_parts, and_from, or_left, or_right, eq-eqb, ne_eqb, not_from_false, not-true, false≢true}
-use Rattle.agg_group.specs.Sets.{dimensions, is_among, has_none, is_subset, keeps_hierarchy}
+use Rattle.std.proofs.Common.{◌≡◌, ℕ, zero, suc, ◌+◌, ◌<◌, ◌≤◌, ◌≢◌, Bool, true, false, not, ◌&&◌, ◌||◌, eqb, List, [], ◌∷◌, ◌++◌, refl, sym, ap, ap₂, ◌∙◌, inl, inr, arith, Decides, IsTrue}
+use Rattle.std.specs.List.{list_all, range_with_len}
+use Rattle.std.proofs.lemmas.Bool.{cases_eq, cases_lt, and_parts, and_from, or_right, eq-eqb, ne_eqb, false≢true}
+use Rattle.agg_group.specs.Sets.{dimensions, is_among, is_subset}
 
 -- a test of every number of a range
 pub all_in_range : (p : ℕ → Bool) (a n : ℕ) → list_all p (range_with_len a n) ≡ true → (d : ℕ) → a ≤ d → d < a + n → p d ≡ true
@@ -74,24 +73,3 @@ set_more old new ds d was here others e =
       | inl same ↦ rw same (here ∙ sym (is_among-push d ds d ∙ or_right (is_among d ds) (eqb d d) (eq-eqb d d refl)))
       | inr ne ↦ others e ne ∙ was e ∙ sym (is_among-push e ds d ∙ or_false (is_among e ds) (eqb d e) (ne_eqb d e (λ q. ne (sym q))))
     ]
-
--- ---- a hierarchy, one member at a time
-and_absorbs : (x y : Bool) → (x ≡ true → y ≡ true) → (x && y) ≡ x
-and_absorbs true y h = h refl
-and_absorbs false y h = refl
-
--- a set that has none of a hierarchy keeps it
-pub keeps_from_none : (s : ℕ → Bool) (ds : List ℕ) → has_none s ds ≡ true → keeps_hierarchy s ds ≡ true
-keeps_from_none s [] h = refl
-keeps_from_none s (d ∷ ds) h =
-    and_from _ _ (or_right (s d) (has_none s ds) (and_parts _ _ h).1) (keeps_from_none s ds (and_parts _ _ h).1)
-
-lacks_first : (s : ℕ → Bool) (d : ℕ) (later : List ℕ) → s d ≡ false → keeps_hierarchy s (d ∷ later) ≡ has_none s later
-lacks_first s d later h = ap (λ x. (x || has_none s later) && keeps_hierarchy s later) h ∙ and_absorbs (has_none s later) (keeps_hierarchy s later) (keeps_from_none s later)
-
-pub keeps_lacking : (s : ℕ → Bool) (ds : List ℕ) (i : ℕ) → i < length ds → s (get_or ds i 0) ≡ false → keeps_hierarchy s (drop i ds) ≡ has_none s (drop (i + 1) ds)
-keeps_lacking s ds i below h = at_drop_more (keeps_hierarchy s) ds i 0 below ∙ lacks_first s (get_or ds i 0) (drop (i + 1) ds) h
-
-pub keeps_having : (s : ℕ → Bool) (ds : List ℕ) (i : ℕ) → i < length ds → s (get_or ds i 0) ≡ true → keeps_hierarchy s (drop i ds) ≡ keeps_hierarchy s (drop (i + 1) ds)
-keeps_having s ds i below h =
-    at_drop_more (keeps_hierarchy s) ds i 0 below ∙ ap (λ x. (x || has_none s (drop (i + 1) ds)) && keeps_hierarchy s (drop (i + 1) ds)) h

@@ -4,6 +4,7 @@ use Rattle.std.specs.List.{list_any}
 use Rattle.agg_group.specs.declared.fault.GroupFault.{GroupFault}
 use Rattle.agg_group.specs.declared.fault.GroupFault.TheVariants as fault
 use Rattle.agg_group.specs.Sets.{dimensions, is_among}
+use Rattle.agg_group.specs.Limits.{most_dimensions}
 use Rattle.agg_group.specs.Rules.{Rules, rule_lists, HasDimensions}
 
 -- there are no includes
@@ -41,6 +42,11 @@ is_short ds = nat_lt (length ds) 2
 abbrev pub has_short : Rules → Bool
 has_short g = list_any is_short g.hierarchies || list_any is_short g.joints
 
+-- the cap is none of the numbers of dimensions that a cube may have
+abbrev pub is_bad_cap : Option ℕ → Bool
+is_bad_cap None = false
+is_bad_cap (Some most) = nat_lt most 1 || nat_lt most_dimensions most
+
 -- the first that applies
 abbrev pub otherwise : Bool → GroupFault → Option GroupFault → Option GroupFault
 otherwise true f rest = Some f
@@ -49,7 +55,8 @@ otherwise false f rest = rest
 abbrev pub group_fault : Rules → Option GroupFault
 group_fault g =
     otherwise (lacks_includes g) fault.EmptyIncludes (otherwise (repeats g) fault.Repeat
-    (otherwise (strays g) fault.NotIncluded (otherwise (overlaps g) fault.TwoRules (otherwise (has_short g) fault.Short None))))
+    (otherwise (strays g) fault.NotIncluded (otherwise (overlaps g) fault.TwoRules
+    (otherwise (has_short g) fault.Short (otherwise (is_bad_cap g.cap) fault.BadCap None)))))
 
 -- the lists of a group: below 64, and free of every fault
 pub record IsSound (g : Rules) : Type 0 where

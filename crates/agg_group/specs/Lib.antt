@@ -1,8 +1,10 @@
 pub mod Sets
 pub mod Mask
 pub mod Rules
-pub mod Faults
 pub mod Limits
+pub mod Faults
+pub mod Units
+pub mod UnitLists
 pub mod Built
 pub mod GroupLists
 pub mod Least

@@ -3,8 +3,8 @@ use Rattle.std.specs.Prelude.{ℕ}
 
 -- the dimensions of a cube
 abbrev pub most_dimensions : ℕ
-most_dimensions = 20
+most_dimensions = 40
 
 -- its cuboids
 abbrev pub most_cuboids : ℕ
-most_cuboids = 512
+most_cuboids = 4_096

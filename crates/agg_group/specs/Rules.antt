@@ -1,26 +1,27 @@
--- What an aggregation group says: the dimensions that it includes, and its three kinds of rule.
-use Rattle.std.specs.Prelude.{ℕ, ◌<◌, Bool, ◌&&◌, List, ◌∷◌, ◌++◌, map, All, Contains, IsTrue}
-use Rattle.std.specs.List.{list_all}
+-- What an aggregation group says: the dimensions that it includes, its three kinds of rule, and how many dimensions a cuboid of it may have.
+use Rattle.std.specs.Prelude.{ℕ, ◌<◌, ◌≤◌, Bool, List, ◌∷◌, ◌++◌, map, All, Contains, IsTrue, Option, Some, None}
 use Rattle.smallvec.specs.SmallVec.{SmallVec}
-use Rattle.agg_group.specs.Sets.{is_among, is_subset, has_all, has_some, keeps_hierarchy, keeps_joint, KeepsHierarchy, KeepsJoint}
+use Rattle.agg_group.specs.Sets.{size_of, KeepsHierarchy, KeepsJoint}
 
 pub record Rules : Type 0 where
   pub includes : List ℕ
   pub mandatory : List ℕ
   pub hierarchies : List (List ℕ)
   pub joints : List (List ℕ)
+  pub cap : Option ℕ
 
 -- the dimensions of each list
 abbrev pub lists_of : List (SmallVec ℕ) → List (List ℕ)
 lists_of lists = map (λ l. l.items) lists
 
 -- the rules that these lists say
-abbrev pub rules_of : List ℕ → List ℕ → List (SmallVec ℕ) → List (SmallVec ℕ) → Rules
-rules_of includes mandatory hierarchies joints = record {
+abbrev pub rules_of : List ℕ → List ℕ → List (SmallVec ℕ) → List (SmallVec ℕ) → Option ℕ → Rules
+rules_of includes mandatory hierarchies joints cap = record {
   includes = includes;
   mandatory = mandatory;
   hierarchies = lists_of hierarchies;
   joints = lists_of joints;
+  cap = cap;
 }
 
 -- the lists of the rules: the mandatory dimensions, each hierarchy, each joint
@@ -37,22 +38,16 @@ pub record HasDimensions (g : Rules) : Type 0 where
   pub hierarchies : All AreDimensions g.hierarchies
   pub joints : All AreDimensions g.joints
 
--- the set is some of the group's includes, and nothing else
-abbrev pub is_chosen : Rules → (ℕ → Bool) → Bool
-is_chosen g s = has_some s g.includes && is_subset s (λ d. is_among d g.includes)
+-- the set has at most so many dimensions
+abbrev pub IsCapped : Option ℕ → (ℕ → Bool) → Type 0
+IsCapped None s = Unit {0}
+IsCapped (Some most) s = size_of s ≤ most
 
--- it has every mandatory dimension, and keeps each hierarchy and each joint
-abbrev pub keeps_rules : Rules → (ℕ → Bool) → Bool
-keeps_rules g s = has_all s g.mandatory && list_all (keeps_hierarchy s) g.hierarchies && list_all (keeps_joint s) g.joints
-
--- the group gives the set as a cuboid
-abbrev pub is_given : Rules → (ℕ → Bool) → Bool
-is_given g s = is_chosen g s && keeps_rules g s
-
--- the same as a fact
+-- The group gives the set as a cuboid: a non-empty set of its includes with every mandatory dimension, that keeps each hierarchy and each joint, and has no more dimensions than the cap.
 pub record IsGiven (g : Rules) (s : ℕ → Bool) : Type 0 where
   pub some : (d : ℕ) × IsTrue (s d)
   pub chosen : (d : ℕ) → IsTrue (s d) → Contains g.includes d
   pub mandatory : All (λ d. IsTrue (s d)) g.mandatory
   pub hierarchies : All (KeepsHierarchy s) g.hierarchies
   pub joints : All (KeepsJoint s) g.joints
+  pub capped : IsCapped g.cap s

@@ -20,6 +20,9 @@ pub enum GroupFault {
     /// A hierarchy or a joint has fewer than two dimensions.
     #[error("a hierarchy or a joint has fewer than two dimensions")]
     Short,
+    /// The cap isn't a number from 1 to the most dimensions of a cube.
+    #[error("the cap is none of the numbers of dimensions that a cube may have")]
+    BadCap,
     /// There is no memory for the group.
     #[error("out of memory")]
     Memory,
@@ -29,7 +32,7 @@ pub enum GroupFault {
 #[derive(Clone, Copy, PartialEq, Eq, Debug, Error)]
 pub enum MaskFault {
     /// More cuboids would be built than a cube may have.
-    #[error("more than 512 cuboids")]
+    #[error("more than 4096 cuboids")]
     TooManyCuboids,
     /// There is no memory for the list.
     #[error("out of memory")]

@@ -4,8 +4,9 @@ ghost use Rattle.std.specs.Prelude.{◌≡◌, count_by};
 ghost use Rattle.std.specs.List.{list_any};
 ghost use Rattle.agg_group.specs.Sets.{is_among};
 ghost use Rattle.agg_group.specs.Rules.{lists_of, rule_lists};
-ghost use Rattle.agg_group.specs.Faults.{has_repeat, repeats, has_other, strays, is_in_two, overlaps, is_short, has_short, group_fault};
+ghost use Rattle.agg_group.specs.Faults.{has_repeat, repeats, has_other, strays, is_in_two, overlaps, is_short, has_short, is_bad_cap, group_fault};
 
+use crate::built::MOST_DIMENSIONS;
 use crate::fault::GroupFault;
 use crate::group::DimList;
 
@@ -16,6 +17,7 @@ pub(crate) struct Lists<'a> {
     pub(crate) mandatory: &'a [u32],
     pub(crate) hierarchies: &'a [DimList],
     pub(crate) joints: &'a [DimList],
+    pub(crate) cap: Option<u32>,
 }
 
 fn has_repeat(dims: &[u32]) -> bool
@@ -66,6 +68,15 @@ fn count_with(lists: &[DimList], d: u32) -> usize
         }
     }
     count
+}
+
+fn is_bad_cap(cap: Option<u32>) -> bool
+    ensures { result ≡ is_bad_cap cap }
+{
+    match cap {
+        None => false,
+        Some(most) => most < 1 || most > MOST_DIMENSIONS,
+    }
 }
 
 impl Lists<'_> {
@@ -132,6 +143,9 @@ impl Lists<'_> {
         }
         if self.has_short() {
             return Some(GroupFault::Short);
+        }
+        if is_bad_cap(self.cap) {
+            return Some(GroupFault::BadCap);
         }
         None
     }

@@ -1,7 +1,5 @@
 // Masks: sets of dimensions in one word.
 
-use crate::group::DimList;
-
 /// A set of dimensions, numbered from 0 to 63: dimension d is in it where bit d of the number is 1.
 /// Masks are ordered as their numbers.
 #[derive(Clone, Copy, PartialEq, Eq, PartialOrd, Ord, Hash, Debug)]
@@ -9,15 +7,16 @@ pub struct Mask(pub u64);
 
 impl Mask {
     ghost use Rattle.std.specs.Prelude.{◌≡◌, ◌≢◌, ℕ, ◌<◌, ◌↔◌, true, IsTrue};
-    ghost use Rattle.std.specs.List.{list_all};
-    ghost use Rattle.agg_group.specs.Sets.{is_among, has_all, has_some, has_none, keeps_hierarchy, keeps_joint};
+    ghost use Rattle.agg_group.specs.Sets.{is_among};
     ghost use Rattle.agg_group.specs.Mask.{has, count_of, is_within, IsWithin};
-    ghost use Rattle.agg_group.specs.Rules.{AreDimensions, lists_of};
+    ghost use Rattle.agg_group.specs.Rules.{AreDimensions};
+    ghost use Rattle.agg_group.specs.Units.{joined, mask_of, is_capped};
 
     /// The set of these dimensions. A dimension may stand more than once.
     pub fn of(dims: &[u32]) -> Mask
         requires { AreDimensions dims.now }
-        ensures { (d : ℕ) → has result d ≡ is_among d dims.now }
+        ensures set { (d : ℕ) → has result d ≡ is_among d dims.now }
+        ensures value { result ≡ mask_of dims.now }
     {
         let mut mask = Mask(0);
         for d in dims {
@@ -57,52 +56,20 @@ impl Mask {
         self.0.count_ones()
     }
 
-    pub(crate) fn has_all(&self, dims: &[u32]) -> bool
-        ensures { result ≡ has_all (has self.now) dims.now }
+    /// The dimensions of either set.
+    pub(crate) fn joined(self, o: Mask) -> Mask
+        ensures { result ≡ joined self o }
     {
-        dims.iter().all(|d| self.has(*d))
+        Mask(self.0 | o.0)
     }
 
-    pub(crate) fn has_some(&self, dims: &[u32]) -> bool
-        ensures { result ≡ has_some (has self.now) dims.now }
+    /// Whether the set has no more dimensions than the cap, where there is one.
+    pub(crate) fn is_capped(self, cap: Option<u32>) -> bool
+        ensures { result ≡ is_capped cap self }
     {
-        dims.iter().any(|d| self.has(*d))
-    }
-
-    pub(crate) fn has_none(&self, dims: &[u32]) -> bool
-        ensures { result ≡ has_none (has self.now) dims.now }
-    {
-        dims.iter().all(|d| !self.has(*d))
-    }
-
-    pub(crate) fn keeps_hierarchy(&self, dims: &[u32]) -> bool
-        ensures { result ≡ keeps_hierarchy (has self.now) dims.now }
-    {
-        for i in 0..dims.len() {
-            if !self.has(dims[i]) {
-                return self.has_none(&dims[i + 1..]);
-            }
+        match cap {
+            None => true,
+            Some(most) => self.count() <= most,
         }
-        true
-    }
-
-    pub(crate) fn keeps_joint(&self, dims: &[u32]) -> bool
-        ensures { result ≡ keeps_joint (has self.now) dims.now }
-    {
-        self.has_all(dims) || self.has_none(dims)
-    }
-
-    pub(crate) fn keeps_hierarchies(&self, lists: &[DimList]) -> bool
-        ensures { result ≡ list_all (keeps_hierarchy (has self.now)) (lists_of lists.now) }
-    {
-        lists
-            .iter()
-            .all(|list| self.keeps_hierarchy(list.as_slice()))
-    }
-
-    pub(crate) fn keeps_joints(&self, lists: &[DimList]) -> bool
-        ensures { result ≡ list_all (keeps_joint (has self.now)) (lists_of lists.now) }
-    {
-        lists.iter().all(|list| self.keeps_joint(list.as_slice()))
     }
 }

@@ -5,6 +5,7 @@ use Rattle.std.specs.List.{flat_map}
 use Rattle.std.proofs.lemmas.Bool.{ltb-true, leb-true}
 use Rattle.descriptor_json.specs.Places.{JsonPointer}
 use Rattle.descriptor_json.specs.declared.raw.RawDesc.{RawDesc}
+use Rattle.agg_group.specs.Limits.{most_dimensions}
 use Rattle.desc_checks.specs.Firsts.{first, unless}
 use Rattle.desc_checks.specs.Limits.{table_too_many, too_many, is_some_up_to}
 use Rattle.desc_checks.specs.Names.{bad_names}
@@ -43,10 +44,10 @@ both false c e = cc
 pub up_to : (most n : ℕ) → is_some_up_to most n ≡ true → (0 < n) × (n ≤ most)
 up_to most n e = let t = both (nat_lt 0 n) (nat_le n most) e in (ltb-true 0 n t.0, leb-true n most t.1)
 
-pub rowkey_fits : (r : RawDesc) → first (faults r) ≡ None → (0 < length r.rowkey.items) × (length r.rowkey.items ≤ 20)
+pub rowkey_fits : (r : RawDesc) → first (faults r) ≡ None → (0 < length r.rowkey.items) × (length r.rowkey.items ≤ most_dimensions)
 rowkey_fits r e =
     let texts = of_three (faults_of_texts r) (faults_of_names r) (faults_of_uses r) e in
     let limits = none_each kind.TooMany (too_many r) (of_three (each kind.TooMany (too_many r)) (each kind.BadName (bad_names r)) (each kind.Twice (twice r)) texts) in
     let rowkey =
-    of_five (flat_map table_too_many r.tables) (unless (nat_le (length r.lookups.items) 8) r.lookups.place) (unless (nat_le (length r.measures.items) 16) r.measures.place) (unless (is_some_up_to 20 (length r.rowkey.items)) r.rowkey.place) (unless (nat_le (length r.groups.items) 8) r.groups.place) limits in
-    up_to 20 (length r.rowkey.items) (none_unless _ r.rowkey.place rowkey)
+    of_five (flat_map table_too_many r.tables) (unless (nat_le (length r.lookups.items) 8) r.lookups.place) (unless (nat_le (length r.measures.items) 16) r.measures.place) (unless (is_some_up_to most_dimensions (length r.rowkey.items)) r.rowkey.place) (unless (nat_le (length r.groups.items) 8) r.groups.place) limits in
+    up_to most_dimensions (length r.rowkey.items) (none_unless _ r.rowkey.place rowkey)

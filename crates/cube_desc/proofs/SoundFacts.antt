@@ -39,11 +39,13 @@ use Rattle.desc_checks.specs.declared.kind.DescKind.TheVariants as kind
 use Rattle.cube_desc.specs.declared.desc.DerivedDesc.{DerivedDesc}
 use Rattle.cube_desc.specs.Cube.{Cube}
 use Rattle.cube_desc.specs.Forms.{cols_of}
-use Rattle.cube_desc.specs.Groups.{bad_groups, groups_of, masks_of, rules_of, too_many_cuboids}
-use Rattle.agg_group.specs.Built.{built_masks}
+use Rattle.cube_desc.specs.Groups.{bad_group, bad_groups, groups_of, masks_of, rules_of, too_many_cuboids}
+use Rattle.agg_group.specs.Limits.{most_dimensions, most_cuboids}
+use Rattle.agg_group.specs.Built.{AreOf, built_masks}
 use Rattle.cube_desc.specs.Meaning.{all_faults, described, judged}
 use Rattle.cube_desc.specs.Resolve.{column_of, column_place, cube_of, derived_column, derived_named, derived_of, dimension_derived, firsts, form_named, join_of, lookup_of, lookup_place, measure_columns, measure_of, measured_column, measures_of, rowkey_column, rowkey_of, table_number, tables_of, type_named, wide_columns, wide_derived, wide_fact, wide_of}
 use Rattle.cube_desc.specs.Sound.{DescriptorsAreSound, IsDerivedOf, IsJoinOf, IsMeasureOf, IsOfNumbers, IsSound, IsThere, columns_at, foreign_of, measured_columns, type_at}
+use Rattle.cube_desc.proofs.GroupLemmas.{are_of, groups_sound}
 use Rattle.cube_desc.proofs.Passed.{both, none_both, none_each, none_unless, up_to}
 use Rattle.cube_desc.proofs.SeekFacts.{all_append, all_both, all_flat_map, all_map, either, flat_map-inside, found, is_itself, none_all, not_true, of_five, of_three, other_text, same_text}
 
@@ -408,10 +410,10 @@ of_six : {A : Type 0} (a b c d x y : List A) → first (a ++ b ++ c ++ d ++ x ++
     → (first a ≡ None) × (first b ≡ None) × (first c ≡ None) × (first d ≡ None) × (first x ≡ None)
 of_six a b c d x y e = of_five a b c d x (none_both (a ++ b ++ c ++ d ++ x) y e).0
 
-sound_of : (r : RawDesc) → first (faults r) ≡ None → first (too_many_cuboids r) ≡ None → IsSound (cube_of r)
-sound_of r e many =
+sound_of : (r : RawDesc) → first (faults r) ≡ None → first (bad_groups r) ≡ None → first (too_many_cuboids r) ≡ None → IsSound (cube_of r)
+sound_of r e grouped many =
     let p = passes_of r e in
-    let limits = of_five (flat_map table_too_many r.tables) (unless (nat_le (length r.lookups.items) 8) r.lookups.place) (unless (nat_le (length r.measures.items) 16) r.measures.place) (unless (is_some_up_to 20 (length r.rowkey.items)) r.rowkey.place) (unless (nat_le (length r.groups.items) 8) r.groups.place) p.limits in
+    let limits = of_five (flat_map table_too_many r.tables) (unless (nat_le (length r.lookups.items) 8) r.lookups.place) (unless (nat_le (length r.measures.items) 16) r.measures.place) (unless (is_some_up_to most_dimensions (length r.rowkey.items)) r.rowkey.place) (unless (nat_le (length r.groups.items) 8) r.groups.place) p.limits in
     let tables = of_five (no_table r r.fact_table) (flat_map (lookup_no_table r) r.lookups.items) (flat_map (dimension_no_table r) r.dimensions) (flat_map (text_no_table r) r.rowkey.items) (flat_map (of_group (text_no_table r)) r.groups.items) p.tables in
     let columns = of_six (flat_map (lookup_no_column r) r.lookups.items) (no_column (fact_columns r) r.partition) (flat_map (dimension_no_column r) r.dimensions) (flat_map (measure_no_column r) r.measures.items) (flat_map (text_no_column r) r.rowkey.items) (flat_map (of_group (text_no_column r)) r.groups.items) p.columns in
     let keys = none_both (flat_map (dimension_bad_rowkey r) r.dimensions) (flat_map (text_bad_rowkey r) r.rowkey.items) p.rowkey in
@@ -423,11 +425,11 @@ sound_of r e many =
     let facts = facts_there r (measure_columns r) (firsts_below (cols (fact_columns r)) [] (flat_map (λ m. option_to_list (measured_column r m)) r.measures.items) (options_below r r.measures.items in_fact)) in
     let front = all_append (IsThere (tables_of r)) (rowkey_of r) (flat_map (λ d. map wide_derived (dimension_derived r d)) r.dimensions) rowkey (subst (λ (ws : List WideCol). AllByRecursion (IsThere (tables_of r)) ws) (sym (flat_map-inside wide_derived (dimension_derived r) r.dimensions)) (derived_wide (cube_of r) (derived_of r) derived)) in
     let wide = all_append (IsThere (tables_of r)) (rowkey_of r ++ flat_map (λ d. map wide_derived (dimension_derived r d)) r.dimensions) (map wide_fact (measure_columns r)) front facts in
-    let dimensions = up_to 20 (length r.rowkey.items) (none_unless (is_some_up_to 20 (length r.rowkey.items)) r.rowkey.place limits.3) in
+    let dimensions = up_to most_dimensions (length r.rowkey.items) (none_unless (is_some_up_to most_dimensions (length r.rowkey.items)) r.rowkey.place limits.3) in
     let lookups = leb-true (length r.lookups.items) 8 (none_unless (nat_le (length r.lookups.items) 8) r.lookups.place limits.1) in
     let few_measures = leb-true (length r.measures.items) 16 (none_unless (nat_le (length r.measures.items) 16) r.measures.place limits.2) in
     let few_groups = leb-true (length r.groups.items) 8 (none_unless (nat_le (length r.groups.items) 8) r.groups.place limits.4) in
-    let few_masks = leb-true (length (masks_of r)) 512 (none_unless (nat_le (length (masks_of r)) 512) r.groups.place many) in
+    let few_masks = leb-true (length (masks_of r)) most_cuboids (none_unless (nat_le (length (masks_of r)) most_cuboids) r.groups.place many) in
     let same_rowkey = length-map r.rowkey.items (rowkey_column r) in
     let same_joins = length-map r.lookups.items (join_of r) in
     let same_measures = length-map r.measures.items (measure_of r) in
@@ -440,6 +442,8 @@ sound_of r e many =
       measures = All-from_recursion (λ m. IsMeasureOf (cols (fact_columns r)) m.form m.column) (measures_of r) (all_map (λ m. IsMeasureOf (cols (fact_columns r)) m.form m.column) (measure_of r) r.measures.items measures);
       wide = wide_is r;
       there = All-from_recursion (IsThere (tables_of r)) (wide_columns r) wide;
+      included = subst (λ (n : ℕ). AreOf n (groups_of r)) (sym same_rowkey) (are_of r.rowkey.items r.groups.items (groups_of r) dimensions.0 refl);
+      groups = groups_sound r.rowkey.items r.groups.items dimensions.0 dimensions.1 (none_all (bad_group r.rowkey.items) r.groups.items grouped);
       masks = ap (λ (n : ℕ). built_masks n (groups_of r)) (sym same_rowkey);
       some_dimensions = omega arith;
       few_dimensions = omega arith;
@@ -453,7 +457,7 @@ judged_sound : (r : RawDesc) (o : Option DescFault) (c : Cube) → first (all_fa
 judged_sound r None c e h =
     let all = of_three (faults r) (each kind.BadGroup (bad_groups r)) (each kind.TooManyCuboids (too_many_cuboids r)) e in
     let same : cube_of r ≡ c = cc h in
-    subst (λ (x : Cube). IsSound x) same (sound_of r all.0 (none_each kind.TooManyCuboids (too_many_cuboids r) all.2))
+    subst (λ (x : Cube). IsSound x) same (sound_of r all.0 (none_each kind.BadGroup (bad_groups r) all.1) (none_each kind.TooManyCuboids (too_many_cuboids r) all.2))
 judged_sound r (Some f) c e h = cc h
 
 shape_sound : (s : Shaped) (c : Cube) → result_ok (described s) ≡ Some c → IsSound c

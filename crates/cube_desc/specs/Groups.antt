@@ -1,8 +1,10 @@
 -- Aggregation groups, with the places of rowkey columns for their names, and the cuboids that they give.
-use Rattle.std.specs.Prelude.{ℕ, List, map, Option, is_none, is_some, unwrap_or, Bool, ◌&&◌, nat_le, bytes_eq, length}
+use Rattle.std.specs.Prelude.{ℕ, List, map, Option, Some, None, is_none, is_some, unwrap_or, Bool, ◌&&◌, nat_le, bytes_eq, length}
 use Rattle.std.specs.List.{flat_map, list_all, position}
 use Rattle.descriptor_json.specs.Places.{JsonPointer}
 use Rattle.descriptor_json.specs.declared.raw.RawName.{RawName}
+use Rattle.descriptor_json.specs.declared.raw.RawNumber.{RawNumber}
+use Rattle.descriptor_json.specs.declared.raw.RawNumber.TheVariants.{Whole, Other}
 use Rattle.descriptor_json.specs.declared.raw.RawGroup.{RawGroup}
 use Rattle.descriptor_json.specs.declared.raw.RawDesc.{RawDesc}
 use Rattle.agg_group.specs.Rules.{Rules}
@@ -19,12 +21,19 @@ dimension_number rowkey t = position (λ k. bytes_eq k.text t.text) rowkey
 abbrev pub dimensions_of : List RawName → List RawName → List ℕ
 dimensions_of rowkey ts = map (λ t. unwrap_or (dimension_number rowkey t) 0) ts
 
+-- the cap that a rule says; for a number that isn't whole 0 stands, which is no cap
+abbrev pub cap_of : Option RawNumber → Option ℕ
+cap_of None = None
+cap_of (Some (Whole n)) = Some n
+cap_of (Some Other) = Some 0
+
 abbrev pub rules_of : List RawName → RawGroup → Rules
 rules_of rowkey g = record {
   includes = dimensions_of rowkey g.includes;
   mandatory = dimensions_of rowkey g.rule.mandatory;
   hierarchies = map (dimensions_of rowkey) g.rule.hierarchies;
   joints = map (dimensions_of rowkey) g.rule.joints;
+  cap = cap_of g.rule.cap;
 }
 
 -- each text is in the rowkey

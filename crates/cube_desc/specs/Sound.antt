@@ -1,7 +1,8 @@
 -- What holds of the numbers of every cube.
 use Rattle.std.specs.Prelude.{◌≡◌, ◌≤◌, ◌<◌, ◌⊎◌, ⊤, ℕ, suc, List, [], ◌++◌, map, Option, Some, None, option_map, option_to_list, length, slice_get, All, Contains}
 use Rattle.std.specs.List.{flat_map}
-use Rattle.agg_group.specs.Built.{built_masks}
+use Rattle.agg_group.specs.Built.{AreOf, built_masks}
+use Rattle.agg_group.specs.Faults as group
 use Rattle.agg_group.specs.Limits.{most_dimensions, most_cuboids}
 use Rattle.cube_val.specs.declared.val.ColType.{ColType}
 use Rattle.cube_val.specs.declared.val.ColType.TheVariants as ty
@@ -84,6 +85,9 @@ pub record IsSound (c : Cube) : Type 0 where
   -- the columns of a joined row
   pub wide : c.plan.wide ≡ c.rowkey ++ map wide_derived c.derived ++ map wide_fact (measured_columns c.measures)
   pub there : All (IsThere c.tables) c.plan.wide
+  -- the groups are of the rowkey's dimensions, and their lists have no fault
+  pub included : AreOf (length c.rowkey) c.groups
+  pub groups : All group.IsSound c.groups
   pub masks : c.masks ≡ built_masks (length c.rowkey) c.groups
   -- how many there are
   pub some_dimensions : 0 < length c.rowkey

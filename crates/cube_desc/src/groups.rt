@@ -5,11 +5,11 @@ ghost use Rattle.std.specs.List.{flat_map, list_all, position};
 ghost use Rattle.agg_group.specs.Limits.{most_dimensions};
 ghost use Rattle.agg_group.specs.Rules.{lists_of};
 ghost use Rattle.desc_checks.specs.Firsts.{first};
-ghost use Rattle.cube_desc.specs.Groups.{dimension_number, dimensions_of, rules_of, are_dimensions, has_dimensions, is_group, bad_group, bad_groups, groups_of, masks_of, too_many_cuboids};
+ghost use Rattle.cube_desc.specs.Groups.{dimension_number, dimensions_of, cap_of, rules_of, are_dimensions, has_dimensions, is_group, bad_group, bad_groups, groups_of, masks_of, too_many_cuboids};
 
 use agg_group::{DimList, Group, GroupFault, Mask, MaskFault, valid_masks};
 use cube_val::Items;
-use descriptor_json::{JsonPointer, RawDesc, RawGroup, RawName};
+use descriptor_json::{JsonPointer, RawDesc, RawGroup, RawName, RawNumber};
 use std::alloc::{AllocError, Global};
 
 /// Why there are no groups.
@@ -110,6 +110,17 @@ fn lists_of(
     Ok(numbers)
 }
 
+// The cap, or 0, which is none, for a number that isn't whole.
+fn cap_of(cap: Option<RawNumber>) -> Option<u32>
+    ensures { result ≡ cap_of cap }
+{
+    match cap {
+        None => None,
+        Some(RawNumber::Whole(most)) => Some(most),
+        Some(RawNumber::Other) => Some(0),
+    }
+}
+
 /// The group, or none where it names a column that isn't in the rowkey, or its lists have a fault.
 fn group_of(
     alloc: Global,
@@ -135,6 +146,7 @@ fn group_of(
         mandatory.as_slice(),
         hierarchies.as_slice(),
         joints.as_slice(),
+        cap_of(rule.cap),
     ) {
         Ok(group) => Ok(Some(group)),
         Err(GroupFault::Memory) => Err(AllocError),

@@ -11,7 +11,7 @@ use Rattle.cuboid_tree.specs.Tree.{SpansTree}
 
 pub masks_span : (c : Cube) → IsSound c → SpansTree c.masks
 masks_span c s =
-    let base = built_has_base (length c.rowkey) c.groups in
+    let base = built_has_base (length c.rowkey) c.groups s.included s.groups in
     let built : SpansTree (built_masks (length c.rowkey) c.groups) = record { some = base.0; rising = built_rises (length c.rowkey) c.groups; base = base.1 } in
     subst (λ (ms : List Mask). SpansTree ms) (sym s.masks) built
 

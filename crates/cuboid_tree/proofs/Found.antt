@@ -1,5 +1,5 @@
 -- What a binary search finds among rising masks.
-use Rattle.std.proofs.Common.{◌≡◌, ℕ, ◌<◌, ◌≤◌, cond, List, length, get_or, Option, Some, None, Result, Ok, Err, MatchResult, IfOk, refl, sym, ap, ◌∙◌, inl, inr, arith, nat_cmp, Less, Equal, Greater, ◌↔◌}
+use Rattle.std.proofs.Common.{◌≡◌, ℕ, ◌<◌, ◌≤◌, cond, List, length, get_or, Option, Result, Ok, Err, MatchResult, IfOk, ap, ◌∙◌, inl, inr, arith, nat_cmp, Less, Equal, Greater, ◌↔◌}
 use Rattle.std.specs.Prelude.{IsSome, is_some, Contains, eqb, ◌⊎◌}
 use Rattle.std.specs.Ordering.{ordering_index}
 use Rattle.std.specs.Result.{result_ok}

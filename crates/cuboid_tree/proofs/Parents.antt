@@ -1,19 +1,16 @@
 -- The place that `parent_of` gives.
-use Rattle.std.proofs.Common.{◌≡◌, ℕ, ◌+◌, ◌-◌, ◌^◌, ◌<◌, ◌≤◌, Bool, true, false, not, ◌&&◌, eqb, List, length, get_or, Option, Some, None, refl, sym, ap, ◌∙◌, subst, inl, inr, arith, IsTrue, ◌↔◌, zero-add}
+use Rattle.std.proofs.Common.{◌≡◌, ℕ, ◌+◌, ◌-◌, ◌^◌, ◌<◌, true, false, not, eqb, List, length, Option, Some, None, refl, sym, ap, ◌∙◌, subst, inl, inr, arith, ◌↔◌}
 use Rattle.std.specs.Prelude.{IfSome, IsNone, slice_get}
-use Rattle.std.proofs.Math.Numerals.{add-one}
-use Rattle.std.proofs.lemmas.List.FromFn.{length-map-range_with_len, get_or-map-range_with_len}
 use Rattle.std.specs.Int.{bit_at}
 use Rattle.std.proofs.lemmas.Bool.{cases_eq, cases_lt, and_parts, and_from, eqb-true, eq-eqb, ne_eqb, not-true, not_from_false, false≢true}
 use Rattle.std.proofs.lemmas.Nat.Bits.{bit_at-lt, same_from_bits}
 use Rattle.agg_group.specs.declared.mask.Mask.{Mask}
-use Rattle.agg_group.specs.Mask.{has, count_of, is_within, IsWithin, IsRising, HasBase, mask_at}
-use Rattle.agg_group.specs.Least.{least_place}
+use Rattle.agg_group.specs.Mask.{has, count_of, is_within, IsWithin, IsRising, mask_at}
 use Rattle.agg_group.proofs.LeastLemmas.{least_is, none_passes}
 use Rattle.agg_group.proofs.SetLemmas.{subset_decides, subset_from}
 use Rattle.agg_group.proofs.MaskLemmas.{has_past}
-use Rattle.cuboid_tree.specs.Tree.{SpansTree, HasParents, is_above, parent_of, is_place, is_child, children_of, IsParent}
-use Rattle.cuboid_tree.proofs.Kept.{kept_passes, next_kept, last_kept}
+use Rattle.cuboid_tree.specs.Tree.{SpansTree, is_above, parent_of, is_place, is_child, children_of, IsParent}
+use Rattle.cuboid_tree.proofs.Kept.{kept_passes}
 
 pub parent_is : (masks : List Mask) (i p : ℕ) → IsRising masks → parent_of masks i ≡ Some p → IsParent masks i p
 parent_is masks i p rising e =
@@ -75,14 +72,6 @@ base_has_none masks i p spans fits last e =
     let same : (mask_at masks i).0 ≡ (mask_at masks p).0 = same_from_bits _ _ (same_bits (mask_at masks i) (mask_at masks p) up down) in
     false≢true (sym differ ∙ eq-eqb _ _ same)
 
--- ---- the list of parents
-pub parents_long : (masks : List Mask) (parents : List (Option ℕ)) → HasParents masks parents → length parents ≡ length masks
-parents_long masks parents w = ap length w.each ∙ length-map-range_with_len (parent_of masks) 0 (length masks)
-
-pub parent_read : (masks : List Mask) (parents : List (Option ℕ)) (i : ℕ) (r : Option ℕ) → HasParents masks parents → i < length masks → r ≡ get_or parents i r → r ≡ parent_of masks i
-parent_read masks parents i r w below e =
-    e ∙ ap (λ ps. get_or ps i r) w.each ∙ get_or-map-range_with_len (parent_of masks) 0 (length masks) i i r below (zero-add i)
-
 pub parent_says : (masks : List Mask) (i : ℕ) (o : Option ℕ) → IsRising masks → o ≡ parent_of masks i → IfSome o (IsParent masks i)
 parent_says masks i None rising e = tt
 parent_says masks i (Some p) rising e = parent_is masks i p rising (sym e)
@@ -96,28 +85,10 @@ pub child_parent : (masks : List Mask) (p i : ℕ) (o : Option ℕ) → o ≡ pa
 child_parent masks p i None e h = absurd (false≢true (ap (λ o. is_place o p) e ∙ h))
 child_parent masks p i (Some x) e h = ap (λ y. Some y) (eqb-true x p (ap (λ o. is_place o p) e ∙ h))
 
--- ---- siblings
-parent_same : (masks : List Mask) (i parent p k : ℕ) → Some parent ≡ parent_of masks i → slice_get (children_of masks p) k ≡ Some i → parent ≡ p
-parent_same masks i parent p k is at =
-    let same : Some parent ≡ Some p = child_parent masks p i (Some parent) is (kept_passes (is_child masks p) 0 (length masks) k i at).0 in
-    cc
+-- the cuboid whose child i is, is i's parent
+pub parent_same : (masks : List Mask) (i p k : ℕ) → slice_get (children_of masks p) k ≡ Some i → parent_of masks i ≡ Some p
+parent_same masks i p k at = child_parent masks p i (parent_of masks i) refl (kept_passes (is_child masks p) 0 (length masks) k i at).0
 
-pub sibling_next : (masks : List Mask) (i parent place p k : ℕ) → Some parent ≡ parent_of masks i → i < place → place < length masks → is_child masks parent place ≡ true → ((m : ℕ) → i < m → m < place → is_child masks parent m ≡ false) → slice_get (children_of masks p) k ≡ Some i → Some place ≡ slice_get (children_of masks p) (k + 1)
-sibling_next masks i parent place p k is after inside child between at =
-    let same = parent_same masks i parent p k is at in
-    sym
-    (ap (slice_get (children_of masks p)) (add-one k)
-    ∙ next_kept (is_child masks p) 0 (length masks) k i place at after (omega arith) (subst (λ x. is_child masks x place ≡ true) same child)
-    (λ m from to. subst (λ x. is_child masks x m ≡ false) same (between m from to)))
-
-pub sibling_last : (masks : List Mask) (i parent p k : ℕ) → Some parent ≡ parent_of masks i → ((m : ℕ) → i < m → m < length masks → is_child masks parent m ≡ false) → slice_get (children_of masks p) k ≡ Some i → None ≡ slice_get (children_of masks p) (k + 1)
-sibling_last masks i parent p k is past at =
-    let same = parent_same masks i parent p k is at in
-    sym
-    (ap (slice_get (children_of masks p)) (add-one k)
-    ∙ last_kept (is_child masks p) 0 (length masks) k i at (λ m from to. subst (λ x. is_child masks x m ≡ false) same (past m from (omega arith))))
-
-pub no_sibling : (masks : List Mask) (i p k : ℕ) → None ≡ parent_of masks i → slice_get (children_of masks p) k ≡ Some i → ⊥
-no_sibling masks i p k is at =
-    let same : None ≡ Some p = child_parent masks p i None is (kept_passes (is_child masks p) 0 (length masks) k i at).0 in
-    cc
+-- a parent is there
+pub parent_inside : (masks : List Mask) (i p : ℕ) → parent_of masks i ≡ Some p → p < length masks
+parent_inside masks i p e = (least_is (is_above masks i) (λ k. count_of (mask_at masks k)) (length masks) p e).inside

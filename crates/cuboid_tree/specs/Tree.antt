@@ -1,5 +1,5 @@
 -- The tree of cuboids, over the list of their masks. A place is an index of the list.
-use Rattle.std.specs.Prelude.{◌≡◌, ℕ, ◌+◌, ◌<◌, ◌≤◌, ◌↔◌, Bool, false, ◌&&◌, not, ◌==◌, List, length, map, filter, Option, Some, None, IsTrue, IsNone}
+use Rattle.std.specs.Prelude.{◌≡◌, ℕ, ◌<◌, ◌≤◌, Bool, false, ◌&&◌, not, ◌==◌, List, length, filter, Option, Some, None, IsTrue}
 use Rattle.std.specs.List.{range_with_len}
 use Rattle.agg_group.specs.declared.mask.Mask.{Mask}
 use Rattle.agg_group.specs.Mask.{count_of, mask_at, is_within, IsRising, HasBase}
@@ -47,9 +47,3 @@ is_of_layer masks dims i = count_of (mask_at masks i) == dims
 
 abbrev pub layer_of : List Mask → ℕ → List ℕ
 layer_of masks dims = filter (is_of_layer masks dims) (places masks)
-
--- what the list of parents holds: the parent of each place, and that only the base has none
-pub record HasParents (masks : List Mask) (parents : List (Option ℕ)) : Type 0 where
-  pub spans : SpansTree masks
-  pub each : parents ≡ map (parent_of masks) (places masks)
-  pub base : (k : ℕ) → k < length masks → IsNone (parent_of masks k) ↔ (k + 1 ≡ length masks)

@@ -52,13 +52,24 @@ pub fn dims(alloc: Global, text: &str) -> io::Result<DimList> {
     Ok(list)
 }
 
-// No list for the empty text.
+// Lists with a semicolon between two; none for the empty text.
 fn lists(alloc: Global, text: &str) -> io::Result<Vec<DimList>> {
     let mut lists = Vec::new(alloc);
-    if !text.is_empty() {
-        lists.push(dims(alloc, text)?)?;
+    if text.is_empty() {
+        return Ok(lists);
+    }
+    for list in text.split(';') {
+        lists.push(dims(alloc, list)?)?;
     }
     Ok(lists)
+}
+
+// No cap for the empty text.
+fn most(text: &str) -> io::Result<Option<u32>> {
+    if text.is_empty() {
+        return Ok(None);
+    }
+    Ok(Some(number(text)?))
 }
 
 // The lists of a group, before they are tested.
@@ -68,6 +79,7 @@ struct GroupLists {
     mandatory: DimList,
     hierarchies: Vec<DimList>,
     joints: Vec<DimList>,
+    cap: Option<u32>,
 }
 
 fn group_lists(alloc: Global, text: &str) -> io::Result<GroupLists> {
@@ -76,11 +88,13 @@ fn group_lists(alloc: Global, text: &str) -> io::Result<GroupLists> {
     let mandatory = dims(alloc, fields.next().unwrap_or(""))?;
     let hierarchies = lists(alloc, fields.next().unwrap_or(""))?;
     let joints = lists(alloc, fields.next().unwrap_or(""))?;
+    let cap = most(fields.next().unwrap_or(""))?;
     Ok(GroupLists {
         includes,
         mandatory,
         hierarchies,
         joints,
+        cap,
     })
 }
 
@@ -99,7 +113,7 @@ fn group_of(alloc: Global, lists: &GroupLists) -> Result<Group, GroupFault> {
     if !are_small(joints) {
         return Err(GroupFault::Memory);
     }
-    Group::new(alloc, includes, mandatory, hierarchies, joints)
+    Group::new(alloc, includes, mandatory, hierarchies, joints, lists.cap)
 }
 
 fn read_group(alloc: Global, text: &str) -> io::Result<Result<Group, GroupFault>> {
@@ -131,7 +145,7 @@ fn groups_of(alloc: Global, text: &str) -> io::Result<Vec<Group>> {
 }
 
 fn masks_of(alloc: Global, n: u32, groups: &[Group]) -> io::Result<Result<Vec<Mask>, MaskFault>> {
-    if n < 1 || n > 20 {
+    if n < 1 || n > 40 {
         return Err(unknown_line());
     }
     if !include_below(groups, n) {
@@ -182,7 +196,7 @@ pub fn answer_count<W: Write>(alloc: Global, rest: &str, out: &mut W) -> io::Res
 
 // The tree over the masks of a cube with n dimensions.
 fn spanned(alloc: Global, n: u32, groups: &[Group]) -> io::Result<SpanTree> {
-    if n < 1 || n > 20 {
+    if n < 1 || n > 40 {
         return Err(unknown_line());
     }
     if !include_below(groups, n) {

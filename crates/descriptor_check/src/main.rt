@@ -9,13 +9,14 @@
 //!   the fact table's file, and of the first lookup's.
 //! - `sizes JSON`: the mask of each cuboid with the number of its dimensions. `cuboids JSON`: the text of `cuboids`.
 //!
-//! A group is its included dimensions, its mandatory ones, a hierarchy and a joint, with `|` between two; dimensions have a comma
-//! between two, and groups have `/` between two:
+//! A group is its included dimensions, its mandatory ones, its hierarchies, its joints and its cap, with `|` between two; dimensions
+//! have a comma between two, hierarchies and joints `;`, and groups `/`. What stands at the end may be left out:
 //!
 //! - `group GROUP`: `no fault`, or the fault of its lists.
 //! - `masks N GROUPS`: the masks of the cuboids of a cube with N dimensions; `count N GROUPS`: how many there are.
-//! - `parents N GROUPS`, `first_children N GROUPS`, `next_siblings N GROUPS`: for each of these cuboids the place of another in their
-//!   tree, and `-` for none. `layer D N GROUPS`: the places of those with D dimensions; `find MASK N GROUPS`: the place of a mask.
+//! - `parents N GROUPS`, `first_children N GROUPS`, `next_siblings N GROUPS`, `next_in_layers N GROUPS`: for each of these cuboids
+//!   the place of another in their tree, and `-` for none. `layer D N GROUPS`: the places of those with D dimensions;
+//!   `first_in_layer D N GROUPS`: the first of them; `find MASK N GROUPS`: the place of a mask.
 //! - `set DIMENSIONS`: the mask and the number of its dimensions; `has D DIMENSIONS`, `within MASK MASK`: whether it is so.
 //!
 //! A line of another form ends the program with status 1. It is no part of the product.
@@ -67,6 +68,8 @@ fn answer_tree<W: Write>(alloc: Global, word: &str, rest: &str, out: &mut W) -> 
         "parents" => trees::answer_parents(alloc, rest, out),
         "first_children" => trees::answer_first_children(alloc, rest, out),
         "next_siblings" => trees::answer_next_siblings(alloc, rest, out),
+        "next_in_layers" => trees::answer_next_in_layers(alloc, rest, out),
+        "first_in_layer" => trees::answer_first_in_layer(alloc, rest, out),
         "layer" => trees::answer_layer(alloc, rest, out),
         "find" => trees::answer_find(alloc, rest, out),
         _ => answer_descriptor(alloc, word, rest, out),

@@ -54,6 +54,28 @@ pub fn answer_next_siblings<W: Write>(alloc: Global, rest: &str, out: &mut W) ->
     put_next_siblings(&tree, out)
 }
 
+fn put_next_in_layers<W: Write>(tree: &SpanTree, out: &mut W) -> io::Result<()> {
+    for i in 0..tree.masks().len() {
+        put_place(tree.next_in_layer(i), out)?;
+    }
+    out.write_all(b"\n")
+}
+
+pub fn answer_next_in_layers<W: Write>(alloc: Global, rest: &str, out: &mut W) -> io::Result<()> {
+    let tree = tree_of(alloc, rest)?;
+    out.write_all(b"next_in_layers")?;
+    put_next_in_layers(&tree, out)
+}
+
+pub fn answer_first_in_layer<W: Write>(alloc: Global, rest: &str, out: &mut W) -> io::Result<()> {
+    let (word, text) = parted(rest)?;
+    let dims = number(word)?;
+    let tree = tree_of(alloc, text)?;
+    out.write_all(b"first_in_layer")?;
+    put_place(tree.first_in_layer(dims), out)?;
+    out.write_all(b"\n")
+}
+
 fn put_layer<W: Write>(alloc: Global, tree: &SpanTree, dims: u32, out: &mut W) -> io::Result<()> {
     let layer = tree.layer(alloc, dims)?;
     out.write_all(b"layer")?;

@@ -1,6 +1,6 @@
 -- Small JSON values, on which the definitions are computed.
-use Rattle.std.specs.Prelude.{codes}
-use Rattle.serde_json.specs.Data.{Data, null, string, object, member, no_members}
+use Rattle.std.specs.Prelude.{codes, negsuc}
+use Rattle.serde_json.specs.Data.{Data, null, number, unsigned, negative, string, object, member, no_members}
 
 -- {"name": "dt"}
 abbrev pub only_name : Data
@@ -17,6 +17,18 @@ two_kinds = object (member (codes "column") (string (codes "a")) (member (codes 
 -- {"joint_dims": null}
 abbrev pub null_joints : Data
 null_joints = object (member (codes "joint_dims") null no_members)
+
+-- {"dim_cap": 2}
+abbrev pub two_at_most : Data
+two_at_most = object (member (codes "dim_cap") (number (unsigned 2)) no_members)
+
+-- {"dim_cap": -1}
+abbrev pub less_than_none : Data
+less_than_none = object (member (codes "dim_cap") (number (negative (negsuc 0))) no_members)
+
+-- {"dim_cap": "2"}
+abbrev pub cap_in_words : Data
+cap_in_words = object (member (codes "dim_cap") (string (codes "2")) no_members)
 
 -- {}
 abbrev pub empty : Data

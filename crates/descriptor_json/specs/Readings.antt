@@ -1,12 +1,14 @@
 -- What is read of a JSON value at a place, and how readings are put together.
-use Rattle.std.specs.Prelude.{ℕ, suc, List, [], ◌∷◌, map, Option, Some, None, Result, Ok, Err}
+use Rattle.std.specs.Prelude.{ℕ, suc, ◌^◌, nat_lt, if◌then◌else◌, List, [], ◌∷◌, map, Option, Some, None, Result, Ok, Err}
 use Rattle.std.specs.Char.{to_ascii_uppercase}
 use Rattle.serde_json.specs.Data.{Data, Items, no_items, item}
-use Rattle.serde_json.specs.Find.{get, as_str, as_array, as_object}
+use Rattle.serde_json.specs.Find.{get, as_number, as_u64, as_str, as_array, as_object}
 use Rattle.descriptor_json.specs.Places.{JsonPointer, at_key, at_index}
 use Rattle.descriptor_json.specs.declared.raw.RawList.{RawList}
 use Rattle.descriptor_json.specs.declared.raw.RawName.{RawName}
 use Rattle.descriptor_json.specs.declared.raw.RawWord.{RawWord}
+use Rattle.descriptor_json.specs.declared.raw.RawNumber.{RawNumber}
+use Rattle.descriptor_json.specs.declared.raw.RawNumber.TheVariants.{Whole, Other}
 
 -- the value that is read, or the first place that is missing or wrong
 abbrev pub Reading : Type 0 → Type 0
@@ -32,6 +34,14 @@ word_at p d = if_there (as_str d) p (λ s. Ok (record { text = s; place = p }))
 -- a text in upper case
 abbrev pub name_at : Reader RawName
 name_at p d = if_there (as_str d) p (λ s. Ok (record { text = map to_ascii_uppercase s; place = p }))
+
+-- a number: as it is where it is whole and below 2^32
+abbrev pub number_of : Option ℕ → RawNumber
+number_of None = Other
+number_of (Some n) = if nat_lt n (2 ^ 32) then Whole n else Other
+
+abbrev pub number_at : Reader (Option RawNumber)
+number_at p d = if_there (as_number d) p (λ n. Ok (Some (number_of (as_u64 n))))
 
 -- an object, which has what the reading says
 abbrev pub object_at : {A : Type 0} → JsonPointer → Data → Reading A → Reading A

@@ -1,8 +1,8 @@
 -- The walk over a descriptor: each object's keys in order, one line a key.
-use Rattle.std.specs.Prelude.{[], is_some, Ok, Err, codes, Bool, true, false}
+use Rattle.std.specs.Prelude.{[], None, is_some, Ok, Err, codes, Bool, true, false}
 use Rattle.serde_json.specs.Data.{Data}
 use Rattle.serde_json.specs.Find.{get}
-use Rattle.descriptor_json.specs.Readings.{Reader, after, object_at, word_at, name_at, member_at, member_or, list_at, placed_at, optional_at}
+use Rattle.descriptor_json.specs.Readings.{Reader, after, object_at, word_at, name_at, number_at, member_at, member_or, list_at, placed_at, optional_at}
 use Rattle.descriptor_json.specs.declared.raw.RawColumn.{RawColumn}
 use Rattle.descriptor_json.specs.declared.raw.RawTable.{RawTable}
 use Rattle.descriptor_json.specs.declared.raw.RawJoin.{RawJoin}
@@ -90,10 +90,11 @@ rule_at p d = object_at p d
     (after (member_or (list_at name_at) [] (codes "mandatory_dims") p d) (λ mandatory.
     after (member_or (list_at (list_at name_at)) [] (codes "hierarchy_dims") p d) (λ hierarchies.
     after (member_or (list_at (list_at name_at)) [] (codes "joint_dims") p d) (λ joints.
-    Ok (record { mandatory = mandatory; hierarchies = hierarchies; joints = joints })))))
+    after (member_or number_at None (codes "dim_cap") p d) (λ cap.
+    Ok (record { mandatory = mandatory; hierarchies = hierarchies; joints = joints; cap = cap }))))))
 
 abbrev pub no_rule : RawRule
-no_rule = record { mandatory = []; hierarchies = []; joints = [] }
+no_rule = record { mandatory = []; hierarchies = []; joints = []; cap = None }
 
 abbrev pub group_at : Reader RawGroup
 group_at p d = object_at p d

@@ -1,11 +1,12 @@
 // The definitions on small values.
 
-ghost use Rattle.std.specs.Prelude.{◌≡◌, [], Ok, Err, codes};
+ghost use Rattle.std.specs.Prelude.{◌≡◌, [], Some, Ok, Err, codes};
 ghost use Rattle.serde_json.specs.Data.{null};
 ghost use Rattle.descriptor_json.specs.Places.{at_key, at_index};
 ghost use Rattle.descriptor_json.specs.Readings.{name_at, optional_at};
 ghost use Rattle.descriptor_json.specs.Walk.{column_at, dimension_at, rule_at, no_rule};
-ghost use Rattle.descriptor_json.specs.Examples.{only_name, whole_column, two_kinds, null_joints, empty};
+ghost use Rattle.descriptor_json.specs.declared.raw.RawNumber.TheVariants.{Whole, Other};
+ghost use Rattle.descriptor_json.specs.Examples.{only_name, whole_column, two_kinds, null_joints, two_at_most, less_than_none, cap_in_words, empty};
 
 /// What the definitions give for small values, as equations; the body does nothing.
 pub fn worked_examples()
@@ -21,5 +22,8 @@ pub fn worked_examples()
     ensures neither_key { dimension_at (codes "/d") empty ≡ Err (codes "/d") }
     ensures absent { rule_at (codes "/r") empty ≡ Ok no_rule }
     ensures present { rule_at (codes "/r") null_joints ≡ Err (codes "/r/joint_dims") }
+    ensures whole_cap { rule_at (codes "/r") two_at_most ≡ Ok record no_rule { cap = Some (Whole 2) } }
+    ensures other_cap { rule_at (codes "/r") less_than_none ≡ Ok record no_rule { cap = Some Other } }
+    ensures no_number { rule_at (codes "/r") cap_in_words ≡ Err (codes "/r/dim_cap") }
     ensures absent_list { optional_at name_at (codes "groups") [] empty ≡ Ok record { place = codes "/groups"; items = [] } }
 {}

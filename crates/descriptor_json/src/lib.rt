@@ -25,5 +25,5 @@ pub use parse::{ShapeFault, read_raw};
 pub use place::JsonPointer;
 pub use raw::{
     RawColumn, RawDesc, RawDimension, RawFunction, RawGroup, RawJoin, RawList, RawLookup,
-    RawMeasure, RawName, RawNamed, RawParameter, RawRule, RawTable, RawWord,
+    RawMeasure, RawName, RawNamed, RawNumber, RawParameter, RawRule, RawTable, RawWord,
 };

@@ -125,6 +125,15 @@ pub struct RawMeasure {
     pub function: RawFunction,
 }
 
+/// A JSON number.
+#[derive(Clone, Copy, Debug)]
+pub enum RawNumber {
+    /// A whole number from 0 to 2^32 - 1, written without point and exponent.
+    Whole(u32),
+    /// Another number.
+    Other,
+}
+
 /// The rules of an aggregation group.
 #[derive(Drop)]
 pub struct RawRule {
@@ -134,6 +143,8 @@ pub struct RawRule {
     pub hierarchies: Items<Items<RawName>>,
     /// The joints.
     pub joints: Items<Items<RawName>>,
+    /// The most dimensions that a cuboid of the group has, where that is said.
+    pub cap: Option<RawNumber>,
 }
 
 /// An aggregation group.

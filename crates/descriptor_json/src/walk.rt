@@ -1,16 +1,16 @@
 // The walk over the parts of a descriptor, one line a key.
 
-ghost use Rattle.std.specs.Prelude.{◌≡◌, ℕ, List, [], codes};
+ghost use Rattle.std.specs.Prelude.{◌≡◌, ℕ, List, [], Some, None, codes};
 ghost use Rattle.serde_json.specs.Data.{Data};
 ghost use Rattle.serde_json.specs.View.{view};
-ghost use Rattle.descriptor_json.specs.Readings.{Reading};
+ghost use Rattle.descriptor_json.specs.Readings.{Reading, number_of, number_at};
 ghost use Rattle.descriptor_json.specs.Tells.{Tells};
 ghost use Rattle.descriptor_json.specs.Walk.{column_at, table_at, join_at, lookup_at, dimension_at, dimension_with, parameter_at, function_at, measure_at, rule_at, group_at};
 
 use crate::place::JsonPointer;
 use crate::raw::{
     RawColumn, RawDimension, RawFunction, RawGroup, RawJoin, RawLookup, RawMeasure, RawNamed,
-    RawParameter, RawRule, RawTable,
+    RawNumber, RawParameter, RawRule, RawTable,
 };
 use crate::reading::{Shaped, Stop, read_member, read_or};
 use cube_val::Items;
@@ -163,6 +163,33 @@ impl Shaped for RawMeasure {
     }
 }
 
+// The number as it is, where it is whole and not too great.
+fn number_of(number: Option<u64>) -> RawNumber
+    ensures { result ≡ number_of number }
+{
+    match number {
+        Some(number) => {
+            if number < 1 << 32 {
+                RawNumber::Whole(number as u32)
+            } else {
+                RawNumber::Other
+            }
+        }
+        None => RawNumber::Other,
+    }
+}
+
+impl Shaped for Option<RawNumber> {
+    ghost shape = { number_at };
+
+    fn read(_alloc: Global, value: &Value, place: JsonPointer) -> Result<Option<RawNumber>, Stop> {
+        if !value.is_number() {
+            return Err(Stop::At(place));
+        }
+        Ok(Some(number_of(value.as_u64())))
+    }
+}
+
 impl Shaped for RawRule {
     ghost shape = { rule_at };
 
@@ -173,10 +200,12 @@ impl Shaped for RawRule {
         let mandatory = read_or(alloc, value, &place, "mandatory_dims", Items::new(alloc))?;
         let hierarchies = read_or(alloc, value, &place, "hierarchy_dims", Items::new(alloc))?;
         let joints = read_or(alloc, value, &place, "joint_dims", Items::new(alloc))?;
+        let cap = read_or(alloc, value, &place, "dim_cap", None)?;
         Ok(RawRule {
             mandatory,
             hierarchies,
             joints,
+            cap,
         })
     }
 }
@@ -193,6 +222,7 @@ impl Shaped for RawGroup {
             mandatory: Items::new(alloc),
             hierarchies: Items::new(alloc),
             joints: Items::new(alloc),
+            cap: None,
         };
         let rule = read_or(alloc, value, &place, "select_rule", absent)?;
         Ok(RawGroup {

@@ -6,6 +6,7 @@ use Rattle.std.proofs.lemmas.Bool.{eqb-true, ltb-true}
 use Rattle.std.proofs.lemmas.List.Elements.{All-from_recursion}
 use Rattle.std.proofs.lemmas.List.Folds.{Any-from_list_any}
 use Rattle.agg_group.specs.Mask.{has}
+use Rattle.agg_group.specs.Limits.{most_dimensions}
 use Rattle.agg_group.specs.Sets.{is_among}
 use Rattle.agg_group.specs.Rules.{AreDimensions}
 use Rattle.agg_group.specs.declared.mask.Mask.{Mask}
@@ -64,7 +65,7 @@ module _ (c : Cube) (some : 0 < length c.rowkey) where
         joined IsIn (of_cond (of_term (column_bits c q)) q.filter) (flat_map (column_bits c q) q.group) (cond_within q.filter)
         (flat IsIn (column_bits c q) q.group (always (λ r. Each IsIn (column_bits c q r)) q.group (λ r. bits_within (column_number c q r))))
 
-    pub dimensions : length c.rowkey ≤ 20 → AreDimensions (needed_bits c q)
+    pub dimensions : length c.rowkey ≤ most_dimensions → AreDimensions (needed_bits c q)
     dimensions few =
         All-from_recursion (λ d. d < 64) (needed_bits c q) (weaker IsIn (λ d. d < 64) (needed_bits c q) (λ d h. omega (arith, h, few)) needed_within)
 

@@ -5,6 +5,7 @@ ghost use Rattle.std.specs.Prelude.{◌≡◌, ◌≤◌, ◌<◌, ◌++◌, ◌
 ghost use Rattle.std.specs.List.{flat_map, position};
 ghost use Rattle.std.specs.Option.{option_copied};
 ghost use Rattle.agg_group.specs.Mask.{has};
+ghost use Rattle.agg_group.specs.Limits.{most_dimensions};
 ghost use Rattle.agg_group.specs.Sets.{is_among};
 ghost use Rattle.agg_group.specs.Rules.{AreDimensions};
 ghost use Rattle.cube_desc.specs.Resolve.{wide_fact};
@@ -37,7 +38,7 @@ fn rowkey_place(rowkey: &[WideCol], column: usize) -> usize
 }
 
 fn push_bit(bits: &mut Vec<u32>, parts: &CubeParts, place: usize) -> Result<(), AllocError>
-    requires few { length parts.now.rowkey ≤ 20 }
+    requires few { length parts.now.rowkey ≤ most_dimensions }
     requires place { place < length parts.now.rowkey }
     ensures { OnOk result (bits.new.items ≡ bits.old.items ++ place ∷ []) }
 {
@@ -47,7 +48,7 @@ fn push_bit(bits: &mut Vec<u32>, parts: &CubeParts, place: usize) -> Result<(), 
 
 fn push_foreign(bits: &mut Vec<u32>, parts: &CubeParts, foreign: &[usize]) -> Result<(), AllocError>
     requires some { 0 < length parts.now.rowkey }
-    requires few { length parts.now.rowkey ≤ 20 }
+    requires few { length parts.now.rowkey ≤ most_dimensions }
     ensures { OnOk result (bits.new.items ≡ bits.old.items ++ map (rowkey_place parts.now) foreign.now) }
 {
     for column in foreign {
@@ -67,7 +68,7 @@ fn foreign_of(step: Option<&JoinStep>) -> &[usize]
 
 fn push_derived(bits: &mut Vec<u32>, parts: &CubeParts, number: usize) -> Result<(), AllocError>
     requires some { 0 < length parts.now.rowkey }
-    requires few { length parts.now.rowkey ≤ 20 }
+    requires few { length parts.now.rowkey ≤ most_dimensions }
     ensures { OnOk result (bits.new.items ≡ bits.old.items ++ derived_bits parts.now (slice_get parts.now.derived number)) }
 {
     match parts.derived.as_slice().get(number) {
@@ -81,7 +82,7 @@ fn push_derived(bits: &mut Vec<u32>, parts: &CubeParts, number: usize) -> Result
 
 fn push_place(bits: &mut Vec<u32>, parts: &CubeParts, place: usize) -> Result<(), AllocError>
     requires some { 0 < length parts.now.rowkey }
-    requires few { length parts.now.rowkey ≤ 20 }
+    requires few { length parts.now.rowkey ≤ most_dimensions }
     ensures { OnOk result (bits.new.items ≡ bits.old.items ++ bits_of parts.now place) }
 {
     let count = parts.rowkey.len();
@@ -94,7 +95,7 @@ fn push_place(bits: &mut Vec<u32>, parts: &CubeParts, place: usize) -> Result<()
 
 fn push_column(bits: &mut Vec<u32>, scope: &Scope<'_>, column: &ColRef) -> Result<(), AllocError>
     requires some { 0 < length scope.now.parts.now.rowkey }
-    requires few { length scope.now.parts.now.rowkey ≤ 20 }
+    requires few { length scope.now.parts.now.rowkey ≤ most_dimensions }
     ensures { OnOk result (bits.new.items ≡ bits.old.items ++ column_bits scope.now.parts.now scope.now.query.now column.now) }
 {
     push_place(bits, scope.parts, column_number(scope, column))
@@ -102,7 +103,7 @@ fn push_column(bits: &mut Vec<u32>, scope: &Scope<'_>, column: &ColRef) -> Resul
 
 fn push_term(bits: &mut Vec<u32>, scope: &Scope<'_>, term: &SqlTerm) -> Result<(), AllocError>
     requires some { 0 < length scope.now.parts.now.rowkey }
-    requires few { length scope.now.parts.now.rowkey ≤ 20 }
+    requires few { length scope.now.parts.now.rowkey ≤ most_dimensions }
     ensures { OnOk result (bits.new.items ≡ bits.old.items ++ of_term (column_bits scope.now.parts.now scope.now.query.now) term.now) }
 {
     match term {
@@ -116,7 +117,7 @@ fn push_term(bits: &mut Vec<u32>, scope: &Scope<'_>, term: &SqlTerm) -> Result<(
 
 fn push_cond(bits: &mut Vec<u32>, scope: &Scope<'_>, cond: &SqlCond) -> Result<(), AllocError>
     requires some { 0 < length scope.now.parts.now.rowkey }
-    requires few { length scope.now.parts.now.rowkey ≤ 20 }
+    requires few { length scope.now.parts.now.rowkey ≤ most_dimensions }
     ensures { OnOk result (bits.new.items ≡ bits.old.items ++ flat_map (of_term (column_bits scope.now.parts.now scope.now.query.now)) (cond_terms cond.now)) }
 {
     match cond {
@@ -142,7 +143,7 @@ fn push_filter(
     filter: &Option<SqlCond>,
 ) -> Result<(), AllocError>
     requires some { 0 < length scope.now.parts.now.rowkey }
-    requires few { length scope.now.parts.now.rowkey ≤ 20 }
+    requires few { length scope.now.parts.now.rowkey ≤ most_dimensions }
     ensures { OnOk result (bits.new.items ≡ bits.old.items ++ of_cond (of_term (column_bits scope.now.parts.now scope.now.query.now)) filter.now) }
 {
     match filter {
@@ -153,7 +154,7 @@ fn push_filter(
 
 fn push_group(bits: &mut Vec<u32>, scope: &Scope<'_>, group: &[ColRef]) -> Result<(), AllocError>
     requires some { 0 < length scope.now.parts.now.rowkey }
-    requires few { length scope.now.parts.now.rowkey ≤ 20 }
+    requires few { length scope.now.parts.now.rowkey ≤ most_dimensions }
     ensures { OnOk result (bits.new.items ≡ bits.old.items ++ flat_map (column_bits scope.now.parts.now scope.now.query.now) group.now) }
 {
     for column in group {
@@ -164,7 +165,7 @@ fn push_group(bits: &mut Vec<u32>, scope: &Scope<'_>, group: &[ColRef]) -> Resul
 
 fn needed_bits(alloc: Global, scope: &Scope<'_>) -> Result<Vec<u32>, AllocError>
     requires some { 0 < length scope.now.parts.now.rowkey }
-    requires few { length scope.now.parts.now.rowkey ≤ 20 }
+    requires few { length scope.now.parts.now.rowkey ≤ most_dimensions }
     ensures { IfOk result (λ v. v.items ≡ needed_bits scope.now.parts.now scope.now.query.now) }
 {
     let query = scope.query;
@@ -177,7 +178,7 @@ fn needed_bits(alloc: Global, scope: &Scope<'_>) -> Result<Vec<u32>, AllocError>
 /// The rowkey columns that a cuboid needs for the query.
 pub(crate) fn needed(alloc: Global, scope: &Scope<'_>) -> Result<Mask, AllocError>
     requires some { 0 < length scope.now.parts.now.rowkey }
-    requires few { length scope.now.parts.now.rowkey ≤ 20 }
+    requires few { length scope.now.parts.now.rowkey ≤ most_dimensions }
     ensures bits { IfOk result (λ m. (d : ℕ) → has m d ≡ is_among d (needed_bits scope.now.parts.now scope.now.query.now)) }
     ensures within { IfOk result (λ m. IsWithinRowkey scope.now.parts.now m) }
 {

@@ -94,7 +94,7 @@ pub cube_masks_small : (c : Cube) → IsSound c → (i : ℕ) → (mask_at c.mas
 cube_masks_small c s i =
     let bound = 2 ^ length c.rowkey in
     let some : 0 < bound = pow_some (length c.rowkey) in
-    let all = recursion_from_All (λ (m : Mask). m.0 < bound) (built_masks (length c.rowkey) c.groups) (built_below (length c.rowkey) c.groups) in
+    let all = recursion_from_All (λ (m : Mask). m.0 < bound) (built_masks (length c.rowkey) c.groups) (built_below (length c.rowkey) c.groups s.included s.groups) in
     let own = mask_small bound c.masks i some (subst (AllByRecursion (λ (m : Mask). m.0 < bound)) (sym s.masks) all) in
     let wide : bound ≤ 2 ^ 64 = pow-le-pow_right {n = 2} (omega arith) {i = length c.rowkey} {j = 64} (omega (arith, s.few_dimensions)) in
     omega (arith, own, wide)
@@ -114,7 +114,7 @@ wants_have masks dims parents (i ∷ ks) rising small all there =
 
 pub cube_spans : (c : Cube) → IsSound c → SpansTree c.masks
 cube_spans c s =
-    let base = built_has_base (length c.rowkey) c.groups in
+    let base = built_has_base (length c.rowkey) c.groups s.included s.groups in
     subst (λ (ms : List Mask). SpansTree ms) (sym s.masks) (record { some = base.0; rising = built_rises (length c.rowkey) c.groups; base = base.1 })
 
 pub made_are : (masks : List Mask) (parents : List CellRows) (ks : List ℕ) → map (made_of parents) (map (want_of masks parents) ks) ≡ map (λ i. regrouped (table_with parents (parent_mask masks i)) (mask_at masks i)) ks

@@ -1,15 +1,14 @@
 -- The layout of a cube that bytes describe.
-use Rattle.std.proofs.Common.{◌≡◌, ◌≤◌, ◌<◌, ◌^◌, ◌++◌, ℕ, zero, suc, Bool, true, false, cond, List, [], ◌∷◌, length, Option, Some, None, refl, sym, ap, subst, arith, length-append}
-use Rattle.std.specs.Prelude.{filter, is_some, map}
+use Rattle.std.proofs.Common.{◌≡◌, ◌≤◌, ◌<◌, ◌^◌, ◌++◌, ℕ, true, List, [], ◌∷◌, length, Option, Some, None, refl, sym, ap, subst, arith, length-append}
+use Rattle.std.specs.Prelude.{is_some, map}
 use Rattle.std.specs.List.{AllByRecursion, cons_option, filter_map, range_with_len}
 use Rattle.std.proofs.Math.Nat.{pow-le-pow_right}
 use Rattle.std.proofs.lemmas.List.{length-map}
 use Rattle.std.proofs.lemmas.List.FromFn.{length-range_with_len}
+use Rattle.std.proofs.lemmas.List.Elements.{recursion_from_All}
 use Rattle.agg_group.specs.declared.mask.Mask.{Mask}
-use Rattle.agg_group.specs.Built.{built_masks, is_built, masks_below}
-use Rattle.agg_group.specs.Mask.{has}
-use Rattle.agg_group.specs.Rules.{Rules}
-use Rattle.agg_group.proofs.BuiltLemmas.{built_has_base, built_rises}
+use Rattle.agg_group.specs.Built.{built_masks}
+use Rattle.agg_group.proofs.BuiltLemmas.{built_below, built_has_base, built_rises}
 use Rattle.cuboid_tree.specs.Tree.{SpansTree}
 use Rattle.cube_desc.specs.Cube.{Cube}
 use Rattle.cube_desc.specs.Meaning.{desc_of}
@@ -26,39 +25,9 @@ use Rattle.step_files.specs.Cubes.{dict_column, flat_columns, layout_in, layout_
 abbrev AreBelow : ℕ → List Mask → Type 0
 AreBelow n masks = AllByRecursion (λ (m : Mask). m.0 < n) masks
 
-below_more : (n : ℕ) (masks : List Mask) → AreBelow n masks → AreBelow (suc n) masks
-below_more n [] h = tt
-below_more n (m ∷ masks) h = (omega (arith, h.0), below_more n masks h.1)
-
-below_end : (n : ℕ) (masks : List Mask) (m : Mask) → AreBelow n masks → m.0 < n → AreBelow n (masks ++ m ∷ [])
-below_end n [] m h lt = (lt, tt)
-below_end n (k ∷ masks) m h lt = (h.0, below_end n masks m h.1 lt)
-
-all_below : (n : ℕ) → AreBelow n (masks_below n)
-all_below zero = tt
-all_below (suc n) = below_end (suc n) (masks_below n) (record { 0 = n }) (below_more n (masks_below n) (all_below n)) (omega arith)
-
-kept_below : (q : Mask → Bool) (n : ℕ) (masks : List Mask) → AreBelow n masks → AreBelow n (filter q masks)
-kept_below q n [] h = tt
-kept_below q n (m ∷ masks) h = by (q m) (kept_below q n masks h.1) where
-  by : (b : Bool) → AreBelow n (filter q masks) → AreBelow n (cond b (m ∷ filter q masks) (filter q masks))
-  by true rest = (h.0, rest)
-  by false rest = rest
-
 wider : (n m : ℕ) (masks : List Mask) → n ≤ m → AreBelow n masks → AreBelow m masks
 wider n m [] le h = tt
 wider n m (k ∷ masks) le h = (omega (arith, le, h.0), wider n m masks le h.1)
-
-built_below : (n : ℕ) (groups : List Rules) → AreBelow (2 ^ n) (built_masks n groups)
-unfolding built_masks
-built_below n groups = kept_below (λ m. is_built n groups (has m)) (2 ^ n) (masks_below (2 ^ n)) (all_below (2 ^ n))
-
--- 2 to the power of at most 20
-small_power : (n : ℕ) → n ≤ 20 → 2 ^ n ≤ 2 ^ 64
-small_power n le = pow-le-pow_right {n = 2} (omega arith) {i = n} {j = 64} (omega (arith, le))
-
-built_spans : (n : ℕ) (groups : List Rules) → SpansTree (built_masks n groups)
-built_spans n groups = let base = built_has_base n groups in record { some = base.0; rising = built_rises n groups; base = base.1 }
 
 -- ---- dictionaries
 
@@ -82,12 +51,24 @@ few_dicts c s =
       s.few_measures,
     )
 
+masks_span : (c : Cube) → IsSound c → SpansTree c.masks
+masks_span c s =
+    let base = built_has_base (length c.rowkey) c.groups s.included s.groups in
+    subst (λ (ms : List Mask). SpansTree ms) (sym s.masks) (record { some = base.0; rising = built_rises (length c.rowkey) c.groups; base = base.1 })
+
+masks_below : (c : Cube) → IsSound c → AreBelow (2 ^ 64) c.masks
+masks_below c s =
+    let n = length c.rowkey in
+    let built : AreBelow (2 ^ n) (built_masks n c.groups) = recursion_from_All (λ (m : Mask). m.0 < 2 ^ n) (built_masks n c.groups) (built_below n c.groups s.included s.groups) in
+    let wide : 2 ^ n ≤ 2 ^ 64 = pow-le-pow_right {n = 2} (omega arith) {i = n} {j = 64} (omega (arith, s.few_dimensions)) in
+    subst (λ (ms : List Mask). AreBelow (2 ^ 64) ms) (sym s.masks) (wider (2 ^ n) (2 ^ 64) (built_masks n c.groups) wide built)
+
 pub layout_holds : (c : Cube) → IsSound c → IsLayout (layout_of c)
 unfolding layout_of
 layout_holds c s = record {
-  spans = subst (λ (ms : List Mask). SpansTree ms) (sym s.masks) (built_spans (length c.rowkey) c.groups);
+  spans = masks_span c s;
   few_masks = omega (arith, s.few_masks);
-  masks = subst (λ (ms : List Mask). AreBelow (2 ^ 64) ms) (sym s.masks) (wider (2 ^ length c.rowkey) (2 ^ 64) (built_masks (length c.rowkey) c.groups) (small_power (length c.rowkey) s.few_dimensions) (built_below (length c.rowkey) c.groups));
+  masks = masks_below c s;
   few_dicts = few_dicts c s;
 }
 

@@ -6,6 +6,7 @@ use Rattle.std.proofs.lemmas.List.{length-map}
 use Rattle.std.proofs.lemmas.List.Sums.{sum_by-cons}
 use Rattle.agg_group.specs.declared.mask.Mask.{Mask}
 use Rattle.agg_group.specs.Mask.{mask_at}
+use Rattle.agg_group.proofs.BuiltLemmas.{last_is_base}
 use Rattle.byte_frame.specs.Spelling.{EachFits}
 use Rattle.cell_gather.specs.Gathers.{aggregated, cells_of, gathered}
 use Rattle.cell_gather.proofs.GatherFacts.{rows_gathered}
@@ -37,7 +38,7 @@ use Rattle.step_codec.specs.Layouts.{dict_form}
 use Rattle.step_compute.specs.Columns.{agg_of, kept_aggs}
 use Rattle.step_compute.specs.Values.{base_value}
 use Rattle.step_compute.proofs.ColumnFacts.{places_counted}
-use Rattle.step_task.proofs.BaseMask.{last_is_base, sizes_in_base}
+use Rattle.step_task.proofs.BaseMask.{sizes_in_base}
 use Rattle.step_task.proofs.ExtremeFacts.{all_pairs, are_extremes_at, mapped_at, no_count, others}
 use Rattle.step_task.proofs.GroupFits.{AreExtremes, Ordered, Row, both_parts, grouped_fits}
 use Rattle.step_task.proofs.RowFits.{at_back, at_front, cells_fit, dict_small, held_at, key_fits, pair_ordered, valid}
@@ -153,7 +154,7 @@ base_fits c s flat dicts h g =
     let few : length c.rowkey ≤ 64 = omega (arith, s.few_dimensions) in
     let counted : length dicts ≡ length (dict_places c) = len ∙ length-map (dict_places c) (dict_column (flat_columns c)) in
     let wide : key_width (kept_aggs c) dicts ≡ length c.rowkey = omega (arith, counted, places_counted c) in
-    let last : last_mask (layout_of c) ≡ base_mask (length c.rowkey) = ap (λ (ms : List Mask). mask_at ms (length ms - 1)) s.masks ∙ last_is_base (length c.rowkey) c.groups in
+    let last : last_mask (layout_of c) ≡ base_mask (length c.rowkey) = ap (λ (ms : List Mask). mask_at ms (length ms - 1)) s.masks ∙ last_is_base (length c.rowkey) c.groups s.included s.groups (record { 0 = 0 }) in
     let own = rows_fit c dicts small few len flat h.0 h.1 g.1 in
     subst (λ (m : Mask). FitsTable (table_form (layout_of c) (map length dicts) 1) m (base_value c flat dicts)) (sym last)
     (subst (λ (t : CellRows). FitsTable (table_form (layout_of c) (map length dicts) 1) (base_mask (length c.rowkey)) t) (table_is c dicts small few flat wide) own)

@@ -1,4 +1,4 @@
-use Rattle.std.proofs.Common.{◌≡◌, ◌+◌, cond, count_by, take, sym, ap, ◌∙◌, arith}
+use Rattle.std.proofs.Common.{◌+◌, cond, count_by, take, sym, ap, ◌∙◌, arith}
 use Rattle.agg_group.specs.Sets.{is_among}
 use Rattle.agg_group.specs.Rules.{lists_of}
 use Rattle.agg_group.proofs.ListLemmas.{count_lists_more}

@@ -12,4 +12,4 @@ of-requires c =
 pub returns-clause-within : goal.returns-clause-within
 returns-clause-within c =
     let s = c.args.scope.now in
-    within s.parts.now c.requires.some s.query.now c.of.result (λ d. c.of.ensures d ∙ ap (is_among d) (c.as_slice.ensures.value ∙ c.in_ok-bits.ensures))
+    within s.parts.now c.requires.some s.query.now c.of.result (λ d. c.of.ensures.set d ∙ ap (is_among d) (c.as_slice.ensures.value ∙ c.in_ok-bits.ensures))

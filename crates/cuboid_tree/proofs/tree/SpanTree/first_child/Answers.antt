@@ -1,17 +1,13 @@
-use Rattle.std.proofs.Common.{length, sym, ap, ◌∙◌, arith}
-use Rattle.cuboid_tree.specs.Tree.{is_child}
-use Rattle.cuboid_tree.proofs.Kept.{first_kept, none_kept}
+use Rattle.std.proofs.Common.{length, ap, subst, ◌∙◌, arith}
+use Rattle.cuboid_tree.specs.declared.node.Node.{Node}
+use Rattle.cuboid_tree.specs.Links.{HasLinks}
+use Rattle.cuboid_tree.proofs.Linked.{child_said}
 use Rattle.cuboid_tree.proofs.tree.SpanTree.first_child.Goals as goal
 
-pub returns-then-is_child : goal.returns-then-is_child
-returns-then-is_child c =
-    let masks = c.args.self.now in
-    let long = ap length c.self.view_is in
-    sym (first_kept (is_child masks c.args.i) 0 (length masks) c.loop-place.place (omega arith)
-    (omega (arith, c.self.inside.masks.ok.0)) (sym c.is_child.ensures ∙ c.if-is_child.true) (λ m _ to. c.loop-place.invariant m to))
+pub index-requires : goal.index-requires
+index-requires c = omega (arith, c.self.invariant.linked.long, ap length c.self.view_is, c.self.inside.nodes.ok.0)
 
 pub returns : goal.returns
 returns c =
-    let masks = c.args.self.now in
-    let long = ap length c.self.view_is in
-    sym (none_kept (is_child masks c.args.i) 0 (length masks) (λ m from to. c.loop-place.invariant m (omega (arith, c.self.inside.masks.ok.0))))
+    let w = subst (λ ms. HasLinks ms c.self.inside.nodes.items c.self.inside.heads.items) c.self.view_is c.self.invariant in
+    ap (λ (x : Node). x.first_child) c.index.ensures ∙ w.linked.first_child c.args.i c.index.result.now c.requires ∙ child_said c.args.self.now c.args.i
