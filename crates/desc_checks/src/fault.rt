@@ -37,13 +37,18 @@ pub fn fault_at(
     }
 }
 
-/// The one fault, or else the other.
-pub(crate) fn or_fault(a: Option<DescFault>, b: Option<DescFault>) -> Option<DescFault>
-    ensures { result ≡ option_or a b }
+/// The fault that was found, or else the one of this kind at a place, if there is one.
+fn or_fault(
+    alloc: Global,
+    found: Option<DescFault>,
+    kind: DescKind,
+    place: Option<&JsonPointer>,
+) -> Result<Option<DescFault>, AllocError>
+    ensures { IfOk result (λ o. (places : List (List ℕ)) → option_copied place.entry ≡ first places → o ≡ option_or found (first (each kind places))) }
 {
-    match a {
-        Some(fault) => Some(fault),
-        None => b,
+    match found {
+        Some(fault) => Ok(Some(fault)),
+        None => fault_at(alloc, kind, place),
     }
 }
 
@@ -51,32 +56,39 @@ fn first_of_texts(alloc: Global, raw: &RawDesc) -> Result<Option<DescFault>, All
     ensures { IfOk result (λ o. o ≡ first (faults_of_texts raw.now)) }
 {
     let many = fault_at(alloc, DescKind::TooMany, too_many_place(raw))?;
-    let named = fault_at(alloc, DescKind::BadName, bad_name_place(raw))?;
+    let named = or_fault(alloc, many, DescKind::BadName, bad_name_place(raw))?;
     let place = twice_place(alloc, raw)?;
-    let twice = fault_at(alloc, DescKind::Twice, place.as_ref())?;
-    Ok(or_fault(or_fault(many, named), twice))
+    let twice = or_fault(alloc, named, DescKind::Twice, place.as_ref())?;
+    Ok(twice)
 }
 
 fn first_of_names(alloc: Global, raw: &RawDesc) -> Result<Option<DescFault>, AllocError>
     ensures { IfOk result (λ o. o ≡ first (faults_of_names raw.now)) }
 {
     let typed = fault_at(alloc, DescKind::BadType, bad_type_place(raw))?;
-    let table = fault_at(alloc, DescKind::NoTable, no_table_place(raw))?;
-    let column = fault_at(alloc, DescKind::NoColumn, no_column_place(raw))?;
-    Ok(or_fault(or_fault(typed, table), column))
+    let table = or_fault(alloc, typed, DescKind::NoTable, no_table_place(raw))?;
+    or_fault(alloc, table, DescKind::NoColumn, no_column_place(raw))
 }
 
 fn first_of_uses(alloc: Global, raw: &RawDesc) -> Result<Option<DescFault>, AllocError>
     ensures { IfOk result (λ o. o ≡ first (faults_of_uses raw.now)) }
 {
+    let measured = bad_measure_place(alloc, raw)?;
     let join = fault_at(alloc, DescKind::BadJoin, bad_join_place(raw))?;
-    let partition = fault_at(alloc, DescKind::BadPartition, bad_partition_place(raw))?;
-    let dimension = fault_at(alloc, DescKind::BadDimension, bad_dimension_place(raw))?;
-    let place = bad_measure_place(alloc, raw)?;
-    let measure = fault_at(alloc, DescKind::BadMeasure, place)?;
-    let rowkey = fault_at(alloc, DescKind::BadRowkey, bad_rowkey_place(raw))?;
-    let to_dimension = or_fault(or_fault(join, partition), dimension);
-    Ok(or_fault(or_fault(to_dimension, measure), rowkey))
+    let partition = or_fault(
+        alloc,
+        join,
+        DescKind::BadPartition,
+        bad_partition_place(raw),
+    )?;
+    let dimension = or_fault(
+        alloc,
+        partition,
+        DescKind::BadDimension,
+        bad_dimension_place(raw),
+    )?;
+    let measure = or_fault(alloc, dimension, DescKind::BadMeasure, measured)?;
+    or_fault(alloc, measure, DescKind::BadRowkey, bad_rowkey_place(raw))
 }
 
 /// The first fault of a descriptor whose shape is right, from TooMany to BadRowkey.

@@ -227,8 +227,7 @@ fn dimensions_place(alloc: Global, raw: &RawDesc) -> Result<Option<JsonPointer>,
 {
     let columns = columns_of(alloc, raw.dimensions.as_slice())?;
     let place = first_from_start(alloc, &Twice, columns.as_slice())?;
-    let own = owned(alloc, place)?;
-    Ok(own)
+    owned(alloc, place)
 }
 
 fn measures_place<'a>(
@@ -248,9 +247,8 @@ pub(crate) fn twice_place(alloc: Global, raw: &RawDesc) -> Result<Option<JsonPoi
     ensures { IfOk result (λ o. o ≡ first (twice raw.now)) }
 {
     let in_tables = tables_place(alloc, raw)?;
-    let in_dimensions = dimensions_place(alloc, raw)?;
     let in_measures = measures_place(alloc, raw)?;
+    let in_dimensions = dimensions_place(alloc, raw)?;
     let to_dimensions = or_first(in_tables, in_dimensions.as_ref());
-    let place = owned(alloc, or_first(to_dimensions, in_measures))?;
-    Ok(place)
+    owned(alloc, or_first(to_dimensions, in_measures))
 }

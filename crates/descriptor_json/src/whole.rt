@@ -92,6 +92,33 @@ fn read_groups(alloc: Global, value: &Value, place: &JsonPointer) -> Result<RawG
     Ok(RawGroups { rowkey, groups })
 }
 
+/// The descriptor of its three parts.
+fn desc_of(of_tables: RawTables, of_columns: RawColumns, of_groups: RawGroups) -> RawDesc
+    ensures { result ≡ record {
+      name = of_tables.name;
+      tables = of_tables.tables;
+      fact_table = of_tables.fact_table;
+      lookups = of_tables.lookups;
+      partition = of_columns.partition;
+      dimensions = of_columns.dimensions;
+      measures = of_columns.measures;
+      rowkey = of_groups.rowkey;
+      groups = of_groups.groups;
+    } }
+{
+    RawDesc {
+        name: of_tables.name,
+        tables: of_tables.tables,
+        fact_table: of_tables.fact_table,
+        lookups: of_tables.lookups,
+        partition: of_columns.partition,
+        dimensions: of_columns.dimensions,
+        measures: of_columns.measures,
+        rowkey: of_groups.rowkey,
+        groups: of_groups.groups,
+    }
+}
+
 impl Shaped for RawDesc {
     ghost shape = { desc_at };
 
@@ -102,16 +129,6 @@ impl Shaped for RawDesc {
         let of_tables = read_tables(alloc, value, &place)?;
         let of_columns = read_columns(alloc, value, &place)?;
         let of_groups = read_groups(alloc, value, &place)?;
-        Ok(RawDesc {
-            name: of_tables.name,
-            tables: of_tables.tables,
-            fact_table: of_tables.fact_table,
-            lookups: of_tables.lookups,
-            partition: of_columns.partition,
-            dimensions: of_columns.dimensions,
-            measures: of_columns.measures,
-            rowkey: of_groups.rowkey,
-            groups: of_groups.groups,
-        })
+        Ok(desc_of(of_tables, of_columns, of_groups))
     }
 }

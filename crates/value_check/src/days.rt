@@ -1,127 +1,104 @@
 // Days, ranges of days and lists of ranges.
 
-use crate::words::{place_in, split_at, split_at_space};
-use check_lines::unknown_line;
+use crate::words::sides;
+use check_lines::{Words, known, parsed, unknown_line};
 use range_list::{Cover, Day, Range, RangeList};
 use std::alloc::Global;
-use std::cmp::Ordering;
 use std::io;
 use std::io::Write;
 
 // The day that a word writes.
-fn day_in(word: &[u8]) -> io::Result<Day> {
-    match Day::read(word) {
-        Some(day) => Ok(day),
-        None => Err(unknown_line()),
-    }
+fn day_in(word: &str) -> io::Result<Day> {
+    known(Day::read(word.as_bytes()))
 }
 
-// The range from a day to another, which stand on both sides of a colon.
-fn range_in(word: &[u8]) -> io::Result<Range> {
-    let (start, end) = split_at(word, b':');
-    match Range::new(day_in(start)?, day_in(end)?) {
-        Some(range) => Ok(range),
-        None => Err(unknown_line()),
-    }
+// The days that stand on both sides of a colon, as bounds of a range, which may be none.
+fn bounds_in(word: &str) -> io::Result<Option<Range>> {
+    let (start, end) = sides(word, ':')?;
+    Ok(Range::new(day_in(start)?, day_in(end)?))
 }
 
-fn put_day<W: Write>(day: Day, out: &mut W) -> io::Result<()> {
-    out.write_all(&day.text())
+// The range between the days on both sides of a colon.
+fn range_in(word: &str) -> io::Result<Range> {
+    known(bounds_in(word)?)
 }
 
 fn put_range<W: Write>(range: Range, out: &mut W) -> io::Result<()> {
-    put_day(range.start(), out)?;
+    out.write_all(&range.start().text())?;
     out.write_all(b":")?;
-    put_day(range.end(), out)
+    out.write_all(&range.end().text())
 }
 
 /// `day BYTES`: the number of the day that the bytes are, and its text, or `none`.
-pub fn answer_day<W: Write>(bytes: &[u8], out: &mut W) -> io::Result<()> {
-    match Day::read(bytes) {
-        Some(day) => {
-            write!(out, "{} ", day.number())?;
-            put_day(day, out)
-        }
-        None => write!(out, "none"),
-    }
+pub fn answer_day<W: Write>(bytes: &str, out: &mut W) -> io::Result<()> {
+    let Some(day) = Day::read(bytes.as_bytes()) else {
+        return out.write_all(b"none");
+    };
+    write!(out, "{} ", day.number())?;
+    out.write_all(&day.text())
 }
 
 /// `later DAY DAY`: how the first is ordered to the second, and the later one.
-pub fn answer_later<W: Write>(words: &[u8], out: &mut W) -> io::Result<()> {
-    let (first, second) = split_at_space(words);
-    let first = day_in(first)?;
-    let second = day_in(second)?;
-    out.write_all(match first.cmp(&second) {
-        Ordering::Less => b"Less ",
-        Ordering::Equal => b"Equal ",
-        Ordering::Greater => b"Greater ",
-    })?;
-    put_day(first.max(second), out)
+pub fn answer_later<W: Write>(words: &mut Words<'_>, out: &mut W) -> io::Result<()> {
+    let first = day_in(words.next()?)?;
+    let second = day_in(words.next()?)?;
+    write!(out, "{:?} ", first.cmp(&second))?;
+    out.write_all(&first.max(second).text())
 }
 
 /// `range START:END DAY ..`: the range and whether it holds each day, or `none` where these bound no range.
-pub fn answer_range<W: Write>(words: &[u8], out: &mut W) -> io::Result<()> {
-    let (bounds, days) = split_at_space(words);
-    let (start, end) = split_at(bounds, b':');
-    match Range::new(day_in(start)?, day_in(end)?) {
-        Some(range) => put_held(range, days, out),
-        None => write!(out, "none"),
+pub fn answer_range<W: Write>(words: &mut Words<'_>, out: &mut W) -> io::Result<()> {
+    match bounds_in(words.next()?)? {
+        Some(range) => put_held(range, words.rest(), out),
+        None => out.write_all(b"none"),
     }
 }
 
 // Writes the range, and for each day whether the range holds it.
-fn put_held<W: Write>(range: Range, days: &[u8], out: &mut W) -> io::Result<()> {
+fn put_held<W: Write>(range: Range, days: &str, out: &mut W) -> io::Result<()> {
     put_range(range, out)?;
-    for word in days.split(|byte| *byte == b' ') {
+    for word in days.split(' ') {
         write!(out, " {}", range.holds(day_in(word)?))?;
     }
     Ok(())
 }
 
 /// `overlap START:END START:END`: whether the ranges have a common day.
-pub fn answer_overlap<W: Write>(words: &[u8], out: &mut W) -> io::Result<()> {
-    let (first, second) = split_at_space(words);
-    let first = range_in(first)?;
-    let second = range_in(second)?;
+pub fn answer_overlap<W: Write>(words: &mut Words<'_>, out: &mut W) -> io::Result<()> {
+    let first = range_in(words.next()?)?;
+    let second = range_in(words.next()?)?;
     write!(out, "{}", first.overlaps(&second))
 }
 
-/// `ranges WORD ..`: what a list of ranges, at first empty, answers to each word, one behind another: `put START:END` the place or
-/// `taken`, `find START:END` the first place that overlaps or `none`, `cover START:END` how the range is covered, `get N` and
-/// `remove N` the range at the place, `len` the length. In a word a dash stands for the space.
-pub fn answer_ranges<W: Write>(alloc: Global, words: &[u8], out: &mut W) -> io::Result<()> {
+/// `ranges WORD ..`: what a list of ranges, at first empty, answers to each word, one behind another: `put=START:END` the place or
+/// `taken`, `find=START:END` the first place that overlaps or `none`, `cover=START:END` how the range is covered, `get=N` and
+/// `remove=N` the range at the place, `len` the length.
+pub fn answer_ranges<W: Write>(alloc: Global, words: &str, out: &mut W) -> io::Result<()> {
     let mut ranges = RangeList::new(alloc);
+    answer_words(&mut ranges, words, out)
+}
+
+// Answers each word to the list.
+fn answer_words<W: Write>(ranges: &mut RangeList, words: &str, out: &mut W) -> io::Result<()> {
     let mut between: &[u8] = b"";
-    for word in words.split(|byte| *byte == b' ') {
+    for word in words.split(' ') {
         out.write_all(between)?;
-        answer_word(&mut ranges, word, out)?;
+        answer_word(ranges, word, out)?;
         between = b", ";
     }
     Ok(())
 }
 
 // Answers a word to the list.
-fn answer_word<W: Write>(ranges: &mut RangeList, word: &[u8], out: &mut W) -> io::Result<()> {
-    let (call, bounds) = split_at(word, b'=');
+fn answer_word<W: Write>(ranges: &mut RangeList, word: &str, out: &mut W) -> io::Result<()> {
+    let (call, bounds) = word.split_once('=').unwrap_or((word, ""));
     match call {
-        b"put" => answer_put(ranges, range_in(bounds)?, out),
-        b"remove" => answer_remove(ranges, place_in(bounds)?, out),
-        _ => answer_question(ranges, call, bounds, out),
-    }
-}
-
-// Answers a word that leaves the list as it is.
-fn answer_question<W: Write>(
-    ranges: &RangeList,
-    call: &[u8],
-    bounds: &[u8],
-    out: &mut W,
-) -> io::Result<()> {
-    match call {
-        b"find" => put_place(ranges.find_overlap(&range_in(bounds)?), out),
-        b"cover" => put_cover(ranges.covering(&range_in(bounds)?), out),
-        b"get" => answer_get(ranges, place_in(bounds)?, out),
-        b"len" => write!(out, "{}", ranges.len()),
+        "put" => answer_put(ranges, range_in(bounds)?, out),
+        "remove" => answer_remove(ranges, parsed(bounds)?, out),
+        "find" => put_place(ranges.find_overlap(&range_in(bounds)?), out),
+        "cover" => put_cover(ranges.covering(&range_in(bounds)?), out),
+        "get" => answer_get(ranges, parsed(bounds)?, out),
+        "len" => write!(out, "{}", ranges.len()),
         _ => Err(unknown_line()),
     }
 }
@@ -132,7 +109,7 @@ fn answer_put<W: Write>(ranges: &mut RangeList, range: Range, out: &mut W) -> io
             let place = ranges.insert(range)?;
             write!(out, "{place}")
         }
-        Some(_) => write!(out, "taken"),
+        Some(_) => out.write_all(b"taken"),
     }
 }
 
@@ -155,16 +132,16 @@ fn answer_get<W: Write>(ranges: &RangeList, place: usize, out: &mut W) -> io::Re
 fn put_place<W: Write>(place: Option<usize>, out: &mut W) -> io::Result<()> {
     match place {
         Some(place) => write!(out, "{place}"),
-        None => write!(out, "none"),
+        None => out.write_all(b"none"),
     }
 }
 
 fn put_cover<W: Write>(cover: Cover, out: &mut W) -> io::Result<()> {
     match cover {
-        Cover::NotOnBounds => write!(out, "NotOnBounds"),
+        Cover::NotOnBounds => out.write_all(b"NotOnBounds"),
         Cover::Hole(day) => {
-            write!(out, "Hole ")?;
-            put_day(day, out)
+            out.write_all(b"Hole ")?;
+            out.write_all(&day.text())
         }
         Cover::Parts { first, count } => write!(out, "Parts {first} {count}"),
     }

@@ -17,15 +17,7 @@ mod tables;
 mod values;
 mod words;
 
-use crate::days::{answer_day, answer_later, answer_overlap, answer_range, answer_ranges};
-use crate::lookups::{answer_find, answer_lookup, answer_same};
-use crate::tables::{answer_long, answer_table};
-use crate::values::{
-    answer_columns, answer_name, answer_order, answer_places, answer_row, answer_rows,
-    answer_units, answer_value,
-};
-use crate::words::split_at_space;
-use check_lines::{Answerer, answer_lines, unknown_line};
+use check_lines::{Answerer, Words, answer_lines, unknown_line};
 use std::alloc::Global;
 use std::io;
 use std::io::Write;
@@ -34,64 +26,53 @@ use std::io::Write;
 #[derive(Drop)]
 struct ValueCheck;
 
-// Answers a line about days.
-fn answer_of_days<W: Write>(
-    alloc: Global,
-    call: &[u8],
-    words: &[u8],
-    out: &mut W,
-) -> io::Result<()> {
-    match call {
-        b"day" => answer_day(words, out),
-        b"later" => answer_later(words, out),
-        b"range" => answer_range(words, out),
-        b"overlap" => answer_overlap(words, out),
-        b"ranges" => answer_ranges(alloc, words, out),
-        _ => answer_of_values(alloc, call, words, out),
-    }
-}
-
 // Answers a line about values.
 fn answer_of_values<W: Write>(
     alloc: Global,
-    call: &[u8],
-    words: &[u8],
+    call: &str,
+    words: &mut Words<'_>,
     out: &mut W,
 ) -> io::Result<()> {
     match call {
-        b"value" => answer_value(alloc, words, out),
-        b"units" => answer_units(alloc, words, out),
-        b"order" => answer_order(alloc, words, out),
-        b"row" => answer_row(alloc, words, out),
-        b"rows" => answer_rows(alloc, words, out),
-        b"name" => answer_name(alloc, words, out),
-        b"columns" => answer_columns(alloc, words, out),
-        b"places" => answer_places(alloc, words, out),
-        _ => answer_of_tables(alloc, call, words, out),
+        "value" => values::answer_value(alloc, words, out),
+        "units" => values::answer_units(alloc, words.rest(), out),
+        "order" => values::answer_order(alloc, words, out),
+        "row" => values::answer_row(alloc, words.rest(), out),
+        "rows" => values::answer_rows(alloc, words.rest(), out),
+        "name" => values::answer_name(alloc, words.rest(), out),
+        "columns" => values::answer_columns(alloc, words.rest(), out),
+        "places" => values::answer_places(alloc, words.rest(), out),
+        _ => Err(unknown_line()),
     }
 }
 
-// Answers a line about tables.
-fn answer_of_tables<W: Write>(
+// Answers a line about days, tables and lookups, or one about values.
+fn answer_call<W: Write>(
     alloc: Global,
-    call: &[u8],
-    words: &[u8],
+    call: &str,
+    words: &mut Words<'_>,
     out: &mut W,
 ) -> io::Result<()> {
     match call {
-        b"table" => answer_table(alloc, words, out),
-        b"long" => answer_long(alloc, words, out),
-        b"lookup" => answer_lookup(alloc, words, out),
-        b"find" => answer_find(alloc, words, out),
-        b"same" => answer_same(alloc, words, out),
-        _ => Err(unknown_line()),
+        "day" => days::answer_day(words.rest(), out),
+        "later" => days::answer_later(words, out),
+        "range" => days::answer_range(words, out),
+        "overlap" => days::answer_overlap(words, out),
+        "ranges" => days::answer_ranges(alloc, words.rest(), out),
+        "table" => tables::answer_table(alloc, words, out),
+        "long" => tables::answer_long(alloc, words, out),
+        "lookup" => lookups::answer_lookup(alloc, words.rest(), out),
+        "find" => lookups::answer_find(alloc, words, out),
+        "same" => lookups::answer_same(alloc, words, out),
+        _ => answer_of_values(alloc, call, words, out),
     }
 }
 
 impl Answerer for ValueCheck {
     fn answer<W: Write>(&mut self, alloc: Global, line: &[u8], out: &mut W) -> io::Result<()> {
-        let (call, words) = split_at_space(line);
-        answer_of_days(alloc, call, words, out)?;
+        let mut words = Words::new(line)?;
+        let call = words.next()?;
+        answer_call(alloc, call, &mut words, out)?;
         out.write_all(b"\n")
     }
 }
