@@ -4,7 +4,7 @@
 
 It needs the program of the crate `sql_check`, which `rt run` builds in crates/sql_check; its path is given by the environment variable
 SQL_CHECK (by default crates/sql_check/out/sql_check). It makes COUNT texts (20,000 by default) from the seed, hands all of them to the
-program in one run, one a line, and compares each answer. It prints how many texts had which answer, and every difference.
+program in one run, one line `query TEXT` each, and compares each answer. It prints how many texts had which answer, and every difference.
 
 The recognizer works otherwise than the reader: it keeps the set of all stacks of grammar symbols that the tokens so far may leave, with no
 look ahead and no choice, in two grammars side by side, one with the limits of depth and of LIMIT's number and one without. Where the set
@@ -306,13 +306,18 @@ def text_of(rng):
     return text
 
 
+def escaped(text):
+    """A text with the escapes of the check programs."""
+    return b"".join(bytes([byte]) if 32 <= byte < 127 and byte != 92 else b"\\x%02x" % byte for byte in text)
+
+
 def main():
     seed = int(sys.argv[1]) if len(sys.argv) > 1 else 1
     count = int(sys.argv[2]) if len(sys.argv) > 2 else 20_000
     program = os.environ.get("SQL_CHECK", "crates/sql_check/out/sql_check")
     rng = random.Random(seed)
     texts = [text_of(rng) for _ in range(count)]
-    run = subprocess.run([program], input=b"".join(text + b"\n" for text in texts), stdout=subprocess.PIPE, check=True)
+    run = subprocess.run([program], input=b"".join(b"query " + escaped(text) + b"\n" for text in texts), stdout=subprocess.PIPE, check=True)
     answers = run.stdout.decode().splitlines()
     if len(answers) != len(texts):
         sys.exit(f"{len(texts)} texts, {len(answers)} answers")

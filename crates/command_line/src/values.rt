@@ -2,7 +2,7 @@
 
 ghost use Rattle.std.specs.Prelude.{◌≡◌, ◌≤◌, ◌⊎◌, ◌+◌, ◌∷◌, [], ℕ, List, IfErr, IfOk, IsSome, None, Some, codes, option_map};
 ghost use Rattle.std.specs.String.{string_bytes};
-ghost use Rattle.clap.specs.Words.{App, app_of, kind_of, new_app, subcommand_of, subcommand_rows_of};
+ghost use Rattle.clap.specs.Words.{App, app_of, kind_of, new_app, subcommand_of, subcommand_rows_of, with_subcommand};
 ghost use Rattle.command_line.specs.Values.{IsApp, cubes, demo_app, jobs_app, reports_app, run_app, step_app, value_of, with_ids};
 ghost use Rattle.command_line.specs.Words.{AreLawful, Writes, bytes_of_words};
 
@@ -55,12 +55,24 @@ fn step<'a>(alloc: Global) -> Result<Command<'a>, AllocError>
     with_place(alloc, to_product, "stop")
 }
 
+// The command with a subcommand more, where that was built.
+fn with_built<'a>(
+    command: Command<'a>,
+    built: Result<Command<'a>, AllocError>,
+) -> Result<Command<'a>, AllocError>
+    ensures { (app : App) → IfOk built.entry (λ c. IsApp c app) → IfOk result (λ c. app_of c ≡ with_subcommand (app_of command.entry) app.top) }
+{
+    let subcommand = built?;
+    command.subcommand(subcommand)
+}
+
 // The program's command line so far: the subcommands that run jobs.
 fn with_jobs<'a>(alloc: Global) -> Result<Command<'a>, AllocError>
     ensures { IfOk result (λ c. app_of c ≡ jobs_app) }
 {
     let named = Command::new(alloc, "cubes").no_binary_name(true);
-    named.subcommand(run(alloc)?)?.subcommand(demo(alloc)?)
+    let running = with_built(named, run(alloc))?;
+    with_built(running, demo(alloc))
 }
 
 // .. and those that print what a file says.
@@ -68,8 +80,8 @@ fn with_reports<'a>(alloc: Global) -> Result<Command<'a>, AllocError>
     ensures { IfOk result (λ c. app_of c ≡ reports_app) }
 {
     let jobs = with_jobs(alloc)?;
-    jobs.subcommand(on_path(alloc, "fold")?)?
-        .subcommand(on_path(alloc, "cuboids")?)
+    let folding = with_built(jobs, on_path(alloc, "fold"))?;
+    with_built(folding, on_path(alloc, "cuboids"))
 }
 
 // The program's command line.
@@ -77,7 +89,7 @@ fn program<'a>(alloc: Global) -> Result<Command<'a>, AllocError>
     ensures { IfOk result (λ c. app_of c ≡ cubes) }
 {
     let reports = with_reports(alloc)?;
-    reports.subcommand(step(alloc)?)
+    with_built(reports, step(alloc))
 }
 
 /// The matches of words whose form was checked. They fail for want of memory alone.

@@ -6,7 +6,7 @@ ghost use Rattle.aggregation.specs.Groups.{gather};
 ghost use Rattle.cube_val.specs.declared.val.Val.{Val};
 ghost use Rattle.cube_val.specs.Order.{row_cmp};
 ghost use Rattle.measure_laws.specs.Measures.{merged_sum, most_items, summed};
-ghost use Rattle.plain_answer.specs.Answers.{plain_of};
+ghost use Rattle.plain_answer.specs.Answers.{plain_of, table_of};
 ghost use Rattle.fixed_cube.specs.Answers.{answer_of, by_first, first_of, gathered, group_of_cell, sum_shown};
 ghost use Rattle.fixed_cube.specs.Cells.{base_of, count_of};
 ghost use Rattle.fixed_cube.specs.Columns.{row_limit};
@@ -159,12 +159,28 @@ fn groups_of(alloc: Global, cells: BTreeMap<Row, Sum>) -> Result<Vec<PlainRow>, 
     Ok(groups)
 }
 
-// A select item.
-fn item(alloc: Global, name: &[u8], term: Term) -> Result<Out, AllocError>
-    ensures { IfOk result (λ out. out ≡ record { name = name.now; term = term }) }
+// Adds a select item.
+fn push_item(
+    alloc: Global,
+    outs: &mut Items<Out>,
+    name: &[u8],
+    term: Term,
+) -> Result<(), AllocError>
+    ensures { OnOk result (outs.new ≡ outs.old ++ record { name = name.now; term = term } ∷ []) }
 {
     let name = NameText::new(alloc, name)?;
-    Ok(Out { name, term })
+    outs.push(Out { name, term })
+}
+
+// What is shown of each group.
+fn shown(alloc: Global) -> Result<Items<Out>, AllocError>
+    ensures { IfOk result (λ outs. outs ≡ by_first.outs) }
+{
+    let mut outs = Items::new(alloc);
+    push_item(alloc, &mut outs, b"D1", Term::Col(0, ColType::Text))?;
+    push_item(alloc, &mut outs, b"COUNT(*)", Term::Agg(0))?;
+    push_item(alloc, &mut outs, b"SUM(M)", Term::Agg(1))?;
+    Ok(outs)
 }
 
 /// What is asked: `select d1, count(*), sum(m) from f group by d1`, over joined rows.
@@ -183,10 +199,7 @@ pub fn by_first(alloc: Global) -> Result<Ask, AllocError>
     };
     let group = Items::from_slice(alloc, &[0usize])?;
     let aggs = Items::from_slice(alloc, &[count, sum])?;
-    let mut outs = Items::new(alloc);
-    outs.push(item(alloc, b"D1", Term::Col(0, ColType::Text))?)?;
-    outs.push(item(alloc, b"COUNT(*)", Term::Agg(0))?)?;
-    outs.push(item(alloc, b"SUM(M)", Term::Agg(1))?)?;
+    let outs = shown(alloc)?;
     Ok(Ask {
         filter: Cond::True,
         group,
@@ -198,16 +211,32 @@ pub fn by_first(alloc: Global) -> Result<Ask, AllocError>
     })
 }
 
-// The answer from the cells of lists.
+// The groups of the cells of lists.
+fn groups_from(alloc: Global, lists: &[&FixedCells]) -> Result<Vec<PlainRow>, AllocError>
+    requires { length lists.now * row_limit ≤ most_items }
+    ensures { IfOk result (λ groups. groups.items ≡ map group_of_cell (gathered (map (λ cells. cells.now) lists.now))) }
+{
+    let refs = refs_of(alloc, lists)?;
+    let cells = gathered_map(alloc, &refs)?;
+    groups_of(alloc, cells)
+}
+
+// The answer to an ask from the cells of lists.
+fn answered(alloc: Global, ask: &Ask, lists: &[&FixedCells]) -> Result<AnswerTable, AllocError>
+    requires { length lists.now * row_limit ≤ most_items }
+    ensures { IfOk result (λ answer. answer ≡ table_of ask.now (map group_of_cell (gathered (map (λ cells. cells.now) lists.now)))) }
+{
+    let groups = groups_from(alloc, lists)?;
+    table(alloc, ask, groups)
+}
+
+// The answer to the query from the cells of lists.
 fn answer_from(alloc: Global, lists: &[&FixedCells]) -> Result<AnswerTable, AllocError>
     requires { length lists.now * row_limit ≤ most_items }
     ensures { IfOk result (λ answer. answer ≡ answer_of (map (λ cells. cells.now) lists.now)) }
 {
-    let refs = refs_of(alloc, lists)?;
-    let cells = gathered_map(alloc, &refs)?;
-    let groups = groups_of(alloc, cells)?;
     let ask = by_first(alloc)?;
-    table(alloc, &ask, groups)
+    answered(alloc, &ask, lists)
 }
 
 /// The answer to the query over segments, from the cells of each: these are gathered by D1. Where the cells of each

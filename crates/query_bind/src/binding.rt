@@ -83,8 +83,8 @@ fn bound(alloc: Global, scope: &Scope<'_>) -> Result<Bound, AllocError>
     ensures sound { IfOk result (λ b. IsSound b.ask) }
     ensures within { IfOk result (λ b. IsWithinRowkey scope.now.parts.now b.needed) }
 {
-    let ask = ask_of(alloc, scope)?;
     let needed = needed(alloc, scope)?;
+    let ask = ask_of(alloc, scope)?;
     Ok(Bound { ask, needed })
 }
 

@@ -22,6 +22,3 @@ mod titles;
 pub use binding::bind;
 pub use bound_query::{BindRefusal, Bound};
 pub use query_names::{BindFault, BindKind};
-
-#[cfg(test)]
-mod tests;

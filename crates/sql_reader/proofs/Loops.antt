@@ -4,9 +4,10 @@ use Rattle.std.proofs.lemmas.List.{length-append}
 use Rattle.sql_tokens.specs.declared.kind.Kind.{Kind}
 use Rattle.sql_tokens.specs.declared.token.Token.{Token}
 use Rattle.sql_reader.specs.declared.stop.Stop.{Stop}
+use Rattle.sql_reader.specs.declared.stop.ReadError.{ReadError}
 use Rattle.sql_reader.specs.Kinds.{heads}
 use Rattle.sql_reader.specs.Rules.{Rule}
-use Rattle.sql_reader.specs.Readers.{◌>>=◌, Reader, read_token, read_times, read_many}
+use Rattle.sql_reader.specs.Readers.{◌>>=◌, Gives, Reader, read_token, read_times, read_many}
 use Rattle.sql_reader.specs.Grammar.{fold, folded, ◌▹◌}
 use Rattle.sql_reader.specs.Parsers.{read_after, read_chain}
 use Rattle.sql_reader.proofs.Exact.{Exact, of_after}
@@ -76,6 +77,11 @@ fails p k f acc [] t u e y is_there one two h = absurd cc
 fails p k f acc (s ∷ ts) t u e y is_there one two h =
     let step : read_after k p (s ∷ ts) ≡ Err e = rw (one, two) refl in
     sym h ∙ rw (is_there, step) refl
+
+-- what was read is what reading gives
+pub told : {X Y : Type 0} (view : X → Y) (read : Result X ReadError) (x : X) (y : Result Y Stop) → Gives view read y → read ≡ Ok x → y ≡ Ok (view x)
+told view (Ok z) x y g e = cc
+told view (Err d) x y g e = absurd cc
 
 -- the mark is there, so it is taken
 pub taken : (k : Kind) (ts : List Token) (e : Stop) → heads (k ∷ []) ts ≡ true → read_token k ts ≡ Err e → ⊥

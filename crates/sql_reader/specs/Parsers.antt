@@ -184,14 +184,21 @@ read_grouping = read_seen or_none (read_optional (k.Group ∷ []) (read_after k.
 unfoldable pub read_ordering : Reader (List SqlKey)
 read_ordering = read_seen or_none (read_optional (k.Order ∷ []) (read_after k.Order (read_after k.By read_keys)))
 
-unfoldable pub read_query : ℕ → Bool → Reader Query
-read_query depth loose =
-    read_seen query_of
-    (read_pair (read_after k.Select read_items)
-    (read_pair (read_after k.From read_name)
+-- the parts of a query from the last, each with all behind it
+abbrev pub read_ending : Bool → Reader (Option ℕ × Option ℕ)
+read_ending loose = read_pair (read_optional (k.Limit ∷ []) (read_limit loose)) (read_optional (k.Semicolon ∷ []) (read_place k.Semicolon))
+
+abbrev pub read_ordered : Bool → Reader (List SqlKey × (Option ℕ × Option ℕ))
+read_ordered loose = read_pair read_ordering (read_ending loose)
+
+abbrev pub read_grouped : ℕ → Bool → Reader (List ColRef × (Option SqlCond × (List SqlKey × (Option ℕ × Option ℕ))))
+read_grouped depth loose = read_pair read_grouping (read_pair (read_optional (k.Having ∷ []) (read_after k.Having (read_filter depth))) (read_ordered loose))
+
+abbrev pub read_source : ℕ → Bool → Reader (Name × (List Join × (Option SqlCond × (List ColRef × (Option SqlCond × (List SqlKey × (Option ℕ × Option ℕ)))))))
+read_source depth loose =
+    read_pair (read_after k.From read_name)
     (read_pair read_joins
-    (read_pair (read_optional (k.Where ∷ []) (read_after k.Where (read_filter depth)))
-    (read_pair read_grouping
-    (read_pair (read_optional (k.Having ∷ []) (read_after k.Having (read_filter depth)))
-    (read_pair read_ordering
-    (read_pair (read_optional (k.Limit ∷ []) (read_limit loose)) (read_optional (k.Semicolon ∷ []) (read_place k.Semicolon))))))))))
+    (read_pair (read_optional (k.Where ∷ []) (read_after k.Where (read_filter depth))) (read_grouped depth loose)))
+
+unfoldable pub read_query : ℕ → Bool → Reader Query
+read_query depth loose = read_seen query_of (read_pair (read_after k.Select read_items) (read_source depth loose))

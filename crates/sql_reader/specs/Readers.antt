@@ -1,5 +1,5 @@
 -- Reading from left to right.
-use Rattle.std.specs.Prelude.{◌≡◌, ℕ, zero, suc, List, [], ◌∷◌, length, Option, Some, None, Result, Ok, Err, if◌then◌else◌}
+use Rattle.std.specs.Prelude.{◌≡◌, ◌⊎◌, ℕ, zero, suc, List, [], ◌∷◌, length, Option, Some, None, Result, Ok, Err, if◌then◌else◌}
 use Rattle.sql_tokens.specs.declared.kind.Kind.{Kind}
 use Rattle.sql_tokens.specs.declared.token.Token.{Token}
 use Rattle.sql_reader.specs.declared.stop.Stop.{Stop}
@@ -21,6 +21,11 @@ Fails (errors.Stop f) read = read ≡ Err f
 abbrev pub Gives : {X Y : Type 0} → (X → Y) → Result X ReadError → Result Y Stop → Type 0
 Gives view (Ok x) read = read ≡ Ok (view x)
 Gives view (Err e) read = Fails e read
+
+-- A value, and what was read beside it, unless memory ran out.
+abbrev pub Beside : {A B R : Type 0} → A → Result (B × R) ReadError → Result ((A × B) × R) ReadError → Type 0
+Beside first read (Ok x) = (first ≡ x.0.0) × (read ≡ Ok (x.0.1, x.1))
+Beside first read (Err e) = (e ≡ errors.Memory) ⊎ (read ≡ Err e)
 
 abbrev pub Reader : Type 0 → Type 0
 Reader A = List Token → Result (A × List Token) Stop

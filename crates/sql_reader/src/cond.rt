@@ -1,8 +1,8 @@
 // Conditions.
 
-ghost use Rattle.std.specs.Prelude.{◌≡◌, ◌∷◌, [], IfOk, Ok, Err};
+ghost use Rattle.std.specs.Prelude.{◌≡◌, ◌∷◌, [], Ok, Err};
 ghost use Rattle.sql_tokens.specs.declared.kind.Kind.TheVariants as k;
-ghost use Rattle.sql_reader.specs.Readers.{Gives, read_optional, read_seen};
+ghost use Rattle.sql_reader.specs.Readers.{Beside, Gives, read_optional, read_seen};
 ghost use Rattle.sql_reader.specs.Parsers.{read_after, read_before, read_conj, read_disj, read_filter, read_neg};
 
 use crate::stop::{Bar, ReadError, Stop};
@@ -11,28 +11,19 @@ use crate::test::basic;
 use crate::tree::SqlCond;
 use sql_tokens::{Kind, Token};
 use sqlite_items::Boxed;
-use std::alloc::{AllocError, Global};
+use std::alloc::Global;
 
-// Two trees, each in a box of its own.
-fn both_boxed<T: Drop>(alloc: Global, left: T, right: T) -> Result<(Boxed<T>, Boxed<T>), AllocError>
-    ensures { IfOk result (λ both. both ≡ (left, right)) }
+// A tree and what is read behind it, each in a box.
+fn both_boxed<T: Drop>(
+    alloc: Global,
+    left: T,
+    read: Result<(T, &[Token]), ReadError>,
+) -> Result<((Boxed<T>, Boxed<T>), &[Token]), ReadError>
+    ensures { Beside left read.entry result }
 {
+    let (right, rest) = read?;
     let left = Boxed::new(alloc, left)?;
-    Ok((left, Boxed::new(alloc, right)?))
-}
-
-fn and(alloc: Global, left: SqlCond, right: SqlCond) -> Result<SqlCond, AllocError>
-    ensures { IfOk result (λ cond. cond ≡ SqlCond.And left right) }
-{
-    let (left, right) = both_boxed(alloc, left, right)?;
-    Ok(SqlCond::And(left, right))
-}
-
-fn or(alloc: Global, left: SqlCond, right: SqlCond) -> Result<SqlCond, AllocError>
-    ensures { IfOk result (λ cond. cond ≡ SqlCond.Or left right) }
-{
-    let (left, right) = both_boxed(alloc, left, right)?;
-    Ok(SqlCond::Or(left, right))
+    Ok(((left, Boxed::new(alloc, right)?), rest))
 }
 
 /// A condition in front, of which parentheses and NOT may nest `depth` deep.
@@ -43,8 +34,9 @@ fn disj(alloc: Global, depth: usize, tokens: &[Token]) -> Result<(SqlCond, &[Tok
 {
     let (mut all, mut rest) = conj(alloc, depth, tokens)?;
     'ors: while starts(rest, Kind::Or) {
-        let (next, after) = or_conj(alloc, depth, rest)?;
-        all = or(alloc, all, next)?;
+        let next = or_conj(alloc, depth, rest);
+        let ((left, right), after) = both_boxed(alloc, all, next)?;
+        all = SqlCond::Or(left, right);
         rest = after;
     }
     Ok((all, rest))
@@ -66,8 +58,9 @@ fn conj(alloc: Global, depth: usize, tokens: &[Token]) -> Result<(SqlCond, &[Tok
 {
     let (mut all, mut rest) = neg(alloc, depth, tokens)?;
     'ands: while starts(rest, Kind::And) {
-        let (next, after) = and_neg(alloc, depth, rest)?;
-        all = and(alloc, all, next)?;
+        let next = and_neg(alloc, depth, rest);
+        let ((left, right), after) = both_boxed(alloc, all, next)?;
+        all = SqlCond::And(left, right);
         rest = after;
     }
     Ok((all, rest))

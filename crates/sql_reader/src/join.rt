@@ -4,12 +4,12 @@ ghost use Rattle.std.specs.Prelude.{◌≡◌, ◌∷◌, false, [], Ok, Err};
 ghost use Rattle.sql_tokens.specs.declared.kind.Kind.TheVariants as k;
 ghost use Rattle.sql_reader.specs.Kinds.{heads};
 ghost use Rattle.sql_reader.specs.Readers.{Gives};
-ghost use Rattle.sql_reader.specs.Parsers.{read_join, read_join_kind, read_join_pair, read_join_pairs, read_join_word, read_joins};
+ghost use Rattle.sql_reader.specs.Parsers.{read_after, read_col, read_join, read_join_kind, read_join_pair, read_join_pairs, read_join_word, read_joins};
 
 use crate::column::{column, name};
 use crate::stop::ReadError;
-use crate::take::{place, starts, take};
-use crate::tree::{Join, JoinKind, JoinPair};
+use crate::take::{ended_by, place, starts, take};
+use crate::tree::{ColRef, Join, JoinKind, JoinPair};
 use cube_val::Items;
 use sql_tokens::{Kind, Token};
 use std::alloc::Global;
@@ -19,8 +19,7 @@ fn join_word(tokens: &[Token]) -> Result<(JoinKind, &[Token]), ReadError>
     ensures { Gives (λ x. (x.0, x.1.now)) result (read_join_word tokens.now) }
 {
     if starts(tokens, Kind::Inner) {
-        let (_, rest) = take(tokens, Kind::Inner)?;
-        return Ok((JoinKind::Inner, rest));
+        return ended_by(JoinKind::Inner, tokens, Kind::Inner);
     }
     let (_, rest) = take(tokens, Kind::Left)?;
     if !starts(rest, Kind::Outer) {
@@ -45,9 +44,16 @@ fn join_pair(alloc: Global, tokens: &[Token]) -> Result<(JoinPair, &[Token]), Re
     ensures { Gives (λ x. (x.0, x.1.now)) result (read_join_pair tokens.now) }
 {
     let (left, rest) = column(alloc, tokens)?;
-    let (_, rest) = take(rest, Kind::Equal)?;
-    let (right, rest) = column(alloc, rest)?;
+    let (right, rest) = equal_column(alloc, rest)?;
     Ok((JoinPair { left, right }, rest))
+}
+
+// The column behind an equals sign.
+fn equal_column(alloc: Global, tokens: &[Token]) -> Result<(ColRef, &[Token]), ReadError>
+    ensures { Gives (λ x. (x.0, x.1.now)) result (read_after k.Equal read_col tokens.now) }
+{
+    let (_, rest) = take(tokens, Kind::Equal)?;
+    column(alloc, rest)
 }
 
 #[tactic(auto, unfolding(crate::specs::Parsers::read_join_pairs))]
@@ -73,9 +79,16 @@ fn one_join(alloc: Global, tokens: &[Token]) -> Result<(Join, &[Token]), ReadErr
     let (kind, rest) = join_kind(tokens)?;
     let (_, rest) = take(rest, Kind::Join)?;
     let (table, rest) = name(alloc, rest)?;
-    let (_, rest) = take(rest, Kind::On)?;
-    let (pairs, rest) = join_pairs(alloc, rest)?;
+    let (pairs, rest) = on_pairs(alloc, rest)?;
     Ok((Join { kind, table, pairs }, rest))
+}
+
+// The pairs behind ON.
+fn on_pairs(alloc: Global, tokens: &[Token]) -> Result<(Items<JoinPair>, &[Token]), ReadError>
+    ensures { Gives (λ x. (x.0, x.1.now)) result (read_after k.On read_join_pairs tokens.now) }
+{
+    let (_, rest) = take(tokens, Kind::On)?;
+    join_pairs(alloc, rest)
 }
 
 fn starts_join(tokens: &[Token]) -> bool

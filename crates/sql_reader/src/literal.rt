@@ -6,7 +6,7 @@ ghost use Rattle.sql_reader.specs.Parsers.{read_lit, read_lit_list, read_lits, r
 
 use crate::parts::Sign;
 use crate::stop::ReadError;
-use crate::take::{starts, take};
+use crate::take::{ended_by, starts, take};
 use crate::tree::{SqlLit, SqlLitKind};
 use cube_val::Items;
 use sql_tokens::{Kind, Token};
@@ -127,6 +127,5 @@ pub(crate) fn lits(alloc: Global, tokens: &[Token]) -> Result<(Items<SqlLit>, &[
 {
     let (_, rest) = take(tokens, Kind::Open)?;
     let (lits, rest) = lit_list(alloc, rest)?;
-    let (_, rest) = take(rest, Kind::Close)?;
-    Ok((lits, rest))
+    ended_by(lits, rest, Kind::Close)
 }

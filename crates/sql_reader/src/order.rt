@@ -7,7 +7,7 @@ ghost use Rattle.sql_reader.specs.Parsers.{read_fall, read_grouping, read_key, r
 
 use crate::column::columns;
 use crate::stop::{Bar, ReadError, Stop};
-use crate::take::{place, starts, take};
+use crate::take::{ended_by, place, starts, take};
 use crate::term::term;
 use crate::tree::{ColRef, SqlKey};
 use cube_val::Items;
@@ -19,11 +19,9 @@ fn fall(tokens: &[Token]) -> Result<(bool, &[Token]), ReadError>
     ensures { Gives (λ x. (x.0, x.1.now)) result (read_fall tokens.now) }
 {
     if starts(tokens, Kind::Asc) {
-        let (_, rest) = take(tokens, Kind::Asc)?;
-        return Ok((false, rest));
+        return ended_by(false, tokens, Kind::Asc);
     }
-    let (_, rest) = take(tokens, Kind::Desc)?;
-    Ok((true, rest))
+    ended_by(true, tokens, Kind::Desc)
 }
 
 #[tactic(auto, unfolding(crate::specs::Parsers::read_key))]

@@ -6,7 +6,7 @@ ghost use Rattle.sql_reader.specs.Parsers.{read_count, read_counted, read_measur
 
 use crate::column::column;
 use crate::stop::ReadError;
-use crate::take::{starts, take};
+use crate::take::{ended_by, starts, take};
 use crate::tree::{AggWord, ColRef, Name, SqlTerm};
 use sql_tokens::{Kind, Token};
 use std::alloc::Global;
@@ -19,12 +19,10 @@ fn counted(
     ensures { Gives (λ x. (x.0, x.1.now)) result (read_counted tokens.now) }
 {
     if starts(tokens, Kind::Star) {
-        let (_, rest) = take(tokens, Kind::Star)?;
-        return Ok(((AggWord::CountRows, None), rest));
+        return ended_by((AggWord::CountRows, None), tokens, Kind::Star);
     }
     if starts(tokens, Kind::One) {
-        let (_, rest) = take(tokens, Kind::One)?;
-        return Ok(((AggWord::CountRows, None), rest));
+        return ended_by((AggWord::CountRows, None), tokens, Kind::One);
     }
     if starts(tokens, Kind::Distinct) {
         let (_, rest) = take(tokens, Kind::Distinct)?;

@@ -5,12 +5,12 @@ ghost use Rattle.sql_tokens.specs.declared.kind.Kind.TheVariants as k;
 ghost use Rattle.sql_reader.specs.Kinds.{heads};
 ghost use Rattle.sql_reader.specs.Grammar;
 ghost use Rattle.sql_reader.specs.Readers.{Gives};
-ghost use Rattle.sql_reader.specs.Parsers.{read_basic, read_bounds, read_compare, read_comparison, read_negated, read_null, read_test};
+ghost use Rattle.sql_reader.specs.Parsers.{read_after, read_basic, read_bounds, read_compare, read_comparison, read_lit, read_negated, read_null, read_test};
 
 use crate::literal::{lit, lits};
 use crate::parts::Tail;
 use crate::stop::ReadError;
-use crate::take::{place, starts, take};
+use crate::take::{ended_by, place, starts, take};
 use crate::term::term;
 use crate::tree::{SqlCond, SqlLit, SqlTerm, SqlTest};
 use sql_tokens::{Kind, Token};
@@ -22,27 +22,21 @@ fn comparison(tokens: &[Token]) -> Result<(SqlTest, &[Token]), ReadError>
     ensures { Gives (λ x. (x.0, x.1.now)) result (read_comparison tokens.now) }
 {
     if starts(tokens, Kind::Equal) {
-        let (_, rest) = take(tokens, Kind::Equal)?;
-        return Ok((SqlTest::Eq, rest));
+        return ended_by(SqlTest::Eq, tokens, Kind::Equal);
     }
     if starts(tokens, Kind::NotEqual) {
-        let (_, rest) = take(tokens, Kind::NotEqual)?;
-        return Ok((SqlTest::Ne, rest));
+        return ended_by(SqlTest::Ne, tokens, Kind::NotEqual);
     }
     if starts(tokens, Kind::Less) {
-        let (_, rest) = take(tokens, Kind::Less)?;
-        return Ok((SqlTest::Lt, rest));
+        return ended_by(SqlTest::Lt, tokens, Kind::Less);
     }
     if starts(tokens, Kind::LessEqual) {
-        let (_, rest) = take(tokens, Kind::LessEqual)?;
-        return Ok((SqlTest::Le, rest));
+        return ended_by(SqlTest::Le, tokens, Kind::LessEqual);
     }
     if starts(tokens, Kind::Greater) {
-        let (_, rest) = take(tokens, Kind::Greater)?;
-        return Ok((SqlTest::Gt, rest));
+        return ended_by(SqlTest::Gt, tokens, Kind::Greater);
     }
-    let (_, rest) = take(tokens, Kind::GreaterEqual)?;
-    Ok((SqlTest::Ge, rest))
+    ended_by(SqlTest::Ge, tokens, Kind::GreaterEqual)
 }
 
 #[tactic(auto, unfolding(crate::specs::Parsers::read_bounds))]
@@ -51,9 +45,16 @@ fn bounds(alloc: Global, tokens: &[Token]) -> Result<((SqlLit, SqlLit), &[Token]
 {
     let (_, rest) = take(tokens, Kind::Between)?;
     let (low, rest) = lit(alloc, rest)?;
-    let (_, rest) = take(rest, Kind::And)?;
-    let (high, rest) = lit(alloc, rest)?;
+    let (high, rest) = and_lit(alloc, rest)?;
     Ok(((low, high), rest))
+}
+
+// The literal behind AND.
+fn and_lit(alloc: Global, tokens: &[Token]) -> Result<(SqlLit, &[Token]), ReadError>
+    ensures { Gives (λ x. (x.0, x.1.now)) result (read_after k.And read_lit tokens.now) }
+{
+    let (_, rest) = take(tokens, Kind::And)?;
+    lit(alloc, rest)
 }
 
 #[tactic(auto, unfolding(crate::specs::Parsers::read_negated))]

@@ -38,6 +38,3 @@ pub use lexeme::Lexeme;
 pub use payload::{Payload, Units};
 pub use query_faults::{SqlFault, SqlKind};
 pub use token::Token;
-
-#[cfg(test)]
-mod tests;
