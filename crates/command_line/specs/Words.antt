@@ -4,6 +4,7 @@ use Rattle.std.specs.Str.Parse.{IsNumeral, digits_value}
 use Rattle.std.specs.String.{string_bytes}
 use Rattle.std.specs.declared.alloc.Global.{Global}
 use Rattle.std.specs.declared.string.String.{String}
+use Rattle.cube_val.specs.Limits.{row_limit}
 use Rattle.command_line.specs.declared.order.Order.{Order}
 use Rattle.command_line.specs.declared.order.Order.TheVariants.{Run, Demo, Fold, Cuboids, Step}
 
@@ -45,7 +46,7 @@ IsWorkers word n = (word ≡ workers_word n) × (1 ≤ n) × (n ≤ 8)
 
 -- the word is a number of rows
 abbrev pub IsRows : List ℕ → ℕ → Type 0
-IsRows word rows = Writes 6 word rows × (1 ≤ rows) × (rows ≤ 200_000)
+IsRows word rows = Writes 6 word rows × (1 ≤ rows) × (rows ≤ row_limit)
 
 -- the words say the command
 abbrev pub Say : List (List ℕ) → Command → Type 0

@@ -5,6 +5,8 @@ ghost use Rattle.command_line.specs.Forms.{HasForm};
 ghost use Rattle.command_line.specs.Words.{Command, IsPath, IsRows, IsWorkers, Say, Writes, bytes_of_words, run};
 ghost use Rattle.command_line.specs.declared.form.Form.TheVariants as form;
 
+use cube_val::ROW_LIMIT;
+
 /// The form of the words, one for each command.
 #[derive(Clone, Copy)]
 pub enum Form {
@@ -99,7 +101,7 @@ fn is_rows(word: &str) -> bool
     ensures { IsTrue result ↔ ((rows : ℕ) × IsRows word.now rows) }
 {
     match number(word, 6) {
-        Some(rows) => 1 <= rows && rows <= 200_000,
+        Some(rows) => 1 <= rows && rows <= ROW_LIMIT,
         None => false,
     }
 }

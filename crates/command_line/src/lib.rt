@@ -5,7 +5,7 @@
 //! more (help, `--workers N` in two words, `--`), sees only words that it takes; the values come from its matches, in
 //! `values`. `read` is the call.
 //!
-//! The crate stands at the bottom and knows no file: a path is a word.
+//! The crate takes the most rows of a table from `cube_val`, and knows no file: a path is a word.
 #![tactic(auto)]
 
 mod examples;

@@ -15,7 +15,7 @@ ghost use Rattle.outside.specs.Written.{AppendsPart};
 use cube_desc::{DescFault, DescKind, DescRefusal, read_desc};
 use cuboid_lines::cuboids_text;
 use fault_lines::status::{BAD_DESCRIPTOR, DONE, MEMORY, READ_FAULT, TOO_LARGE, WRITE_FAULT};
-use fault_lines::{MOST_BYTES, finish, refuse, refuse_path};
+use fault_lines::{MOST_BYTES, finish, refuse, refuse_too_large, refuse_unread};
 use outside::{FileFault, Files, Sink};
 use std::alloc::{AllocError, Global};
 
@@ -147,8 +147,8 @@ pub fn run_cuboids<F: Files, S: Sink>(alloc: Global, path: &str, files: &mut F, 
     match cuboids_output(alloc, path, files) {
         Ok(text) => finish(sink, text.as_slice()),
         Err(Stop::Memory) => MEMORY,
-        Err(Stop::ReadFault) => refuse_path(alloc, sink, "ReadFault", path, READ_FAULT),
-        Err(Stop::TooLarge) => refuse_path(alloc, sink, "TooLarge", path, TOO_LARGE),
+        Err(Stop::ReadFault) => refuse_unread(alloc, sink, path),
+        Err(Stop::TooLarge) => refuse_too_large(alloc, sink, path),
         Err(Stop::BadDescriptor(fault)) => refuse_descriptor(alloc, sink, &fault),
     }
 }

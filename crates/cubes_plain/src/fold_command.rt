@@ -17,7 +17,7 @@ use crate::fold::fold_text;
 use crate::rows::read_rows;
 use cube_val::Row;
 use fault_lines::status::{BAD_TABLE, DONE, MEMORY, READ_FAULT, TOO_LARGE, WRITE_FAULT};
-use fault_lines::{MOST_BYTES, finish, refuse_path, refuse_table};
+use fault_lines::{MOST_BYTES, finish, refuse_table, refuse_too_large, refuse_unread};
 use outside::{FileFault, Files, Sink};
 use std::alloc::Global;
 use std::thread::Threads;
@@ -113,8 +113,8 @@ pub fn run_fold<R: Threads + Sync, F: Files, S: Sink>(
     match fold_output(rt, alloc, path, files) {
         Ok(text) => finish(sink, text.as_slice()),
         Err(Fault::Memory) => MEMORY,
-        Err(Fault::ReadFault) => refuse_path(alloc, sink, "ReadFault", path, READ_FAULT),
-        Err(Fault::TooLarge) => refuse_path(alloc, sink, "TooLarge", path, TOO_LARGE),
+        Err(Fault::ReadFault) => refuse_unread(alloc, sink, path),
+        Err(Fault::TooLarge) => refuse_too_large(alloc, sink, path),
         Err(Fault::BadTable(fault)) => {
             refuse_table(alloc, sink, &["D1", "D2", "M"], path, fault)
         }

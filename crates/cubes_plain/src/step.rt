@@ -9,7 +9,7 @@ ghost use Rattle.outside.specs.Counts.{Rose};
 ghost use Rattle.outside.specs.Watches.{HoldsIfTold, there_at};
 
 use fault_lines::status::{BAD_TASK, DONE, MEMORY, READ_FAULT, STOPPED, WRITE_FAULT};
-use fault_lines::{refuse, refuse_path};
+use fault_lines::{refuse, refuse_unread};
 use outside::{FileFault, FileWatch, Files, Sink, StepWork, WorkFault};
 use std::alloc::Global;
 use std::thread::Threads;
@@ -146,7 +146,7 @@ pub fn run_step_file<K: StepWork, R: Threads + Sync, F: Files, S: Sink>(
     match product_of_file::<K, R, F>(rt, alloc, task, stop, files) {
         Ok(bytes) => write_product(alloc, product, bytes.as_slice(), files),
         Err(NoProduct::Memory) => MEMORY,
-        Err(NoProduct::ReadFault) => refuse_path(alloc, sink, "ReadFault", task, READ_FAULT),
+        Err(NoProduct::ReadFault) => refuse_unread(alloc, sink, task),
         Err(NoProduct::BadTask) => refuse(sink, b"fault: BadTask\n", BAD_TASK),
         Err(NoProduct::Stopped) => refuse(sink, b"fault: Stopped\n", STOPPED),
     }

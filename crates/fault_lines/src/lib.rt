@@ -11,5 +11,5 @@ mod output;
 pub mod status;
 mod table;
 
-pub use output::{MOST_BYTES, finish, refuse, refuse_path};
+pub use output::{MOST_BYTES, finish, refuse, refuse_too_large, refuse_unread};
 pub use table::refuse_table;

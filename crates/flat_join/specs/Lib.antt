@@ -1,6 +1,7 @@
 pub mod Examples
 pub mod Flat
 pub mod Partners
+pub mod Prepared
 pub mod Fits
 pub mod JoinExamples
 pub mod Joins

@@ -1,17 +1,16 @@
-// The flat rows of a cube.
+// The flat rows of fact rows.
 
 ghost use Rattle.std.specs.Prelude.{◌≡◌, ◌++◌, ◌∷◌, [], IfOk, OnOk, if◌then◌else◌, length};
 ghost use Rattle.cube_desc.specs.Sound.{IsSound};
 ghost use Rattle.flat_join.specs.Joins.{day_in, is_joined, is_within, joined_by, wide_row};
-ghost use Rattle.flat_join.specs.Flat.{AreTablesOf, flat_of, without_derived};
+ghost use Rattle.flat_join.specs.Flat.{without_derived};
 ghost use Rattle.flat_join.specs.Partners.{found_in};
 
 use crate::partner::{has_inner_partners, partners, value_at};
-use crate::snaps::snaps_of;
 use crate::wide::wide_row;
 use calendar::Day;
-use cube_desc::{CubeDesc, CubeParts};
-use cube_val::{JoinPlan, Row, Table, TableSet, Val, WideCol};
+use cube_desc::CubeParts;
+use cube_val::{JoinPlan, Row, Val, WideCol};
 use lookup_snap::LookupSnap;
 use plain_answer::FlatRows;
 use range_list::Range;
@@ -30,8 +29,8 @@ fn is_within(range: &Range, date: &Val) -> bool
     }
 }
 
-// The columns of the flat rows: the wide columns without the derived ones.
-fn flat_columns(alloc: Global, parts: &CubeParts) -> Result<Vec<WideCol>, AllocError>
+/// The columns of the flat rows: the wide columns without the derived ones.
+pub(crate) fn flat_columns(alloc: Global, parts: &CubeParts) -> Result<Vec<WideCol>, AllocError>
     requires { IsSound parts.now }
     ensures { IfOk result (λ columns. columns.items ≡ without_derived parts.now parts.now.plan.wide) }
 {
@@ -68,47 +67,21 @@ fn add_joined(
     Ok(())
 }
 
-// The joined rows of fact rows, with these columns.
-fn joined_rows(
+/// Adds the joined rows of fact rows, with these columns. After want of memory some of them stand there.
+pub(crate) fn add_joined_rows(
     alloc: Global,
     plan: &JoinPlan,
     columns: &[WideCol],
     snaps: &[LookupSnap],
     range: &Range,
-    facts: &Table,
-) -> Result<FlatRows, AllocError>
+    facts: &[Row],
+    flat: &mut FlatRows,
+) -> Result<(), AllocError>
     requires { length plan.now.joins ≡ length snaps.now }
-    ensures { IfOk result (λ flat. flat ≡ joined_by (found_in plan.now.joins snaps.now) plan.now columns.now range.now facts.now) }
+    ensures { OnOk result (flat.new ≡ flat.old ++ joined_by (found_in plan.now.joins snaps.now) plan.now columns.now range.now facts.now) }
 {
-    let mut flat = FlatRows::new(alloc);
-    for i in 0..facts.len() {
-        add_joined(alloc, plan, columns, snaps, range, facts.row(i), &mut flat)?;
+    for fact in facts {
+        add_joined(alloc, plan, columns, snaps, range, fact, flat)?;
     }
-    Ok(flat)
-}
-
-/// The flat rows of a cube's tables and a range: for each fact row whose partition date lies in the range, in file order, its columns of the
-/// rowkey and of the measures, those of lookups taken from the rows that it matches. An inner join drops a fact row
-/// without a match, a left join gives nulls for it.
-pub fn join(
-    alloc: Global,
-    desc: &CubeDesc,
-    tables: &TableSet,
-    range: &Range,
-) -> Result<FlatRows, AllocError>
-    requires { AreTablesOf desc.now.cube tables.now }
-    ensures { IfOk result (λ flat. flat ≡ flat_of desc.now.cube tables.now range.now) }
-{
-    let parts = desc.parts();
-    let columns = flat_columns(alloc, parts)?;
-    let snaps = snaps_of(alloc, parts, parts.plan.joins.as_slice(), tables)?;
-    let flat = joined_rows(
-        alloc,
-        &parts.plan,
-        columns.as_slice(),
-        snaps.as_slice(),
-        range,
-        tables.table(0),
-    )?;
-    Ok(flat)
+    Ok(())
 }

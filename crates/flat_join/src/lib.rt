@@ -9,9 +9,10 @@
 //!   answers from joined rows cites it.
 //! - `IsTable` (`specs/Fits.antt`), what rows keep of their form; every table that is read has it (`read_tables_fit`).
 //! - [`join`], which is that definition: the code finds the same rows by sorted keys. That the tables fit the cube's forms is asked
-//!   of the caller, who has it of every table that was read.
+//!   of the caller, who has it of every table that was read. [`PreparedJoin`] is the same for a part of the fact rows at a time.
 //!
-//! - `flat`: the top call. `snaps`: a snapshot of each lookup. `partner`: what one fact row matches. `wide`: the values of a joined row.
+//! - `prepared`: the top calls. `flat`: the flat rows of fact rows. `snaps`: a snapshot of each lookup. `partner`: what one fact row
+//!   matches. `wide`: the values of a joined row.
 //! - `laws`: what holds of all tables. `examples`: joined rows, and answers over them, from the definitions.
 #![tactic(auto)]
 
@@ -19,9 +20,10 @@ mod examples;
 mod flat;
 mod laws;
 mod partner;
+mod prepared;
 mod snaps;
 mod wide;
 
 pub use examples::{worked_examples, worked_joins};
-pub use flat::join;
 pub use laws::read_tables_fit;
+pub use prepared::{PreparedJoin, join};

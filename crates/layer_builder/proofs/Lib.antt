@@ -2,7 +2,7 @@ pub mod BaseFacts
 pub mod CuboidFacts
 pub mod InPiecesFacts
 pub mod LayerFacts
-pub mod MadeFacts
+pub mod ResultFacts
 pub mod MaskFacts
 pub mod MeaningFacts
 pub mod PieceFacts

@@ -1,15 +1,16 @@
 -- The base cuboid of rows, from those of the pieces of the rows.
 use Rattle.std.proofs.Common.{◌≡◌, ◌≤◌, ◌<◌, ◌+◌, ◌-◌, ◌∙◌, ℕ, zero, suc, List, [], ◌∷◌, ◌++◌, Ok, Err, drop, get_or, length, map, refl, sym, take, ap, arith, append_assoc}
 use Rattle.std.specs.Borrow.{Bor}
-use Rattle.std.specs.Prelude.{IfOk, Result, sum_by}
+use Rattle.std.specs.Prelude.{All, IfOk, Result, sum_by}
 use Rattle.std.specs.Cmp.Lexicographic.{nat_list_cmp_total}
 use Rattle.std.specs.List.{AllByRecursion, AllZip, flat_map}
 use Rattle.std.proofs.lemmas.List.{append-nil, drop-drop, length-append, map-append, take-append-drop}
+use Rattle.std.proofs.lemmas.List.Elements.{All-from_recursion}
 use Rattle.std.proofs.lemmas.List.FromFn.{length-map-range_with_len}
 use Rattle.std.proofs.lemmas.List.Sums.{sum_by-append, sum_by-cons}
 use Rattle.agg_group.specs.declared.mask.Mask.{Mask}
 use Rattle.measure_laws.specs.declared.measure.MeasureForm.{MeasureForm}
-use Rattle.measure_laws.specs.Measures.{MeasureLaws, most_items}
+use Rattle.measure_laws.specs.Measures.{MeasureLaws}
 use Rattle.aggregation.specs.Groups.{distinct, values_at}
 use Rattle.aggregation.proofs.CellFacts.{count_aggregate}
 use Rattle.cube_val.specs.declared.val.Val.{Val}
@@ -21,6 +22,7 @@ use Rattle.cell_gather.proofs.GatherFacts.{key_exact, law}
 use Rattle.cell_gather.proofs.KeyFacts.{whole_part}
 use Rattle.cell_gather.proofs.RowFacts.{items-cells}
 use Rattle.cell_gather.proofs.TableFacts.{Row, sum_mapped}
+use Rattle.layer_builder.specs.Pieces.{AreBases, ArePieces}
 use Rattle.layer_builder.specs.Base.{IsBase, base_mask, form_of_kind, key_in, key_width, measures_from}
 use Rattle.layer_builder.proofs.BaseFacts.{forms_from}
 use Rattle.layer_builder.proofs.MaskFacts.{count_base}
@@ -123,41 +125,71 @@ module _ (aggs : List Agg) (dicts : List (List Val)) (few_dims : key_width aggs 
   abbrev pub base : Mask
   base = base_mask (key_width aggs dicts)
 
-  abbrev pub Piece : Type 0
-  Piece = Bor (List (List Val))
-
-  abbrev pub AreBases : List Piece → List CellRows → Type 0
-  AreBases pieces tables = AllZip (λ (p : Piece) (t : CellRows). IsBase aggs dicts p.now t) pieces tables
-
-  rows_of_tables : (pieces : List Piece) (tables : List CellRows) → AreBases pieces tables
-      → flat_map (λ (t : CellRows). t.rows) tables ≡ flat_map (aggregated ms key) (map (λ (p : Piece). p.now) pieces)
+  rows_of_tables : (lists : List (List (List Val))) (tables : List CellRows) → AllZip (IsBase aggs dicts) lists tables
+      → flat_map (λ (t : CellRows). t.rows) tables ≡ flat_map (aggregated ms key) lists
   rows_of_tables [] [] h = refl
   rows_of_tables [] (t ∷ tables) h = absurd h
-  rows_of_tables (p ∷ pieces) [] h = absurd h
-  rows_of_tables (p ∷ pieces) (t ∷ tables) h = let first = h.0 in let own = first.rows in let rest = rows_of_tables pieces tables h.1 in λ i. own i ++ rest i
+  rows_of_tables (rows ∷ lists) [] h = absurd h
+  rows_of_tables (rows ∷ lists) (t ∷ tables) h = let first = h.0 in let own = first.rows in let rest = rows_of_tables lists tables h.1 in λ i. own i ++ rest i
 
-  pub alike : (pieces : List Piece) (tables : List CellRows) → AreBases pieces tables → AllByRecursion (λ (t : CellRows). (t.mask ≡ base) × (t.forms ≡ kinds)) tables
-  alike [] [] h = tt
-  alike [] (t ∷ tables) h = absurd h
-  alike (p ∷ pieces) [] h = absurd h
-  alike (p ∷ pieces) (t ∷ tables) h = let first = h.0 in ((first.mask, first.forms), alike pieces tables h.1)
+  alike_each : (lists : List (List (List Val))) (tables : List CellRows) → AllZip (IsBase aggs dicts) lists tables → AllByRecursion (λ (t : CellRows). (t.mask ≡ base) × (t.forms ≡ kinds)) tables
+  alike_each [] [] h = tt
+  alike_each [] (t ∷ tables) h = absurd h
+  alike_each (rows ∷ lists) [] h = absurd h
+  alike_each (rows ∷ lists) (t ∷ tables) h = let first = h.0 in ((first.mask, first.forms), alike_each lists tables h.1)
 
-  pub few_in_tables : (pieces : List Piece) (tables : List CellRows) (flat : List (List Val)) → AreBases pieces tables → flat_map (λ (p : Piece). p.now) pieces ≡ flat → length flat ≤ most_items
-      → ItemsAreFew kinds (flat_map (λ (t : CellRows). t.rows) tables)
-  few_in_tables pieces tables flat bases cut few k lt =
-      let own = items-pieces ms key k (map (λ (p : Piece). p.now) pieces) in
-      let whole : flat_map (λ rows. rows) (map (λ (p : Piece). p.now) pieces) ≡ flat = flat_map-map (λ rows. rows) (λ (p : Piece). p.now) pieces ∙ cut in
-      let size : length (flat_map (λ rows. rows) (map (λ (p : Piece). p.now) pieces)) ≡ length flat = ap length whole in
-      rw (rows_of_tables pieces tables bases) (omega arith)
+  pub alike : (tables : List CellRows) → ArePieces aggs dicts tables → All (λ (t : CellRows). (t.mask ≡ base) × (t.forms ≡ kinds)) tables
+  alike tables p = All-from_recursion (λ (t : CellRows). (t.mask ≡ base) × (t.forms ≡ kinds)) tables (alike_each p.bases.pieces tables p.bases.each)
 
-  pub joined_is : {E : Type 0} (pieces : List Piece) (tables : List CellRows) (flat : List (List Val)) → AreBases pieces tables → flat_map (λ (p : Piece). p.now) pieces ≡ flat → (result : Result CellRows E)
-      → IfOk result (λ t. t.mask ≡ base) → IfOk result (λ t. t.forms ≡ kinds) → IfOk result (λ t. t.rows ≡ gathered kinds (part_of base base) (flat_map (λ (t : CellRows). t.rows) tables)) → IfOk result (IsBase aggs dicts flat)
-  joined_is pieces tables flat bases cut (Ok t) mask forms gives =
-      let whole : flat_map (λ rows. rows) (map (λ (p : Piece). p.now) pieces) ≡ flat = flat_map-map (λ rows. rows) (λ (p : Piece). p.now) pieces ∙ cut in
-      record {
-        mask = mask;
-        forms = forms;
-        rows = gives ∙ (λ i. gathered (sym (forms_from dicts (key_width aggs dicts) aggs) i) (part_of base base) (rows_of_tables pieces tables bases i))
-            ∙ from_pieces ms dicts (key_width aggs dicts) few_dims (map (λ (p : Piece). p.now) pieces) ∙ ap (aggregated ms key) whole;
-      }
-  joined_is pieces tables flat bases cut (Err e) mask forms gives = tt
+  pub few_in_tables : (tables : List CellRows) → ArePieces aggs dicts tables → ItemsAreFew kinds (flat_map (λ (t : CellRows). t.rows) tables)
+  few_in_tables tables p k lt =
+      let own = items-pieces ms key k p.bases.pieces in
+      let size : length (flat_map (λ piece. piece) p.bases.pieces) ≡ length p.rows = ap length p.bases.cut in
+      let few = p.few in
+      rw (rows_of_tables p.bases.pieces tables p.bases.each) (omega arith)
+
+  pub joined_is : {E : Type 0} (tables : List CellRows) → (result : Result CellRows E) → IfOk result (λ t. t.mask ≡ base) → IfOk result (λ t. t.forms ≡ kinds)
+      → IfOk result (λ t. t.rows ≡ gathered kinds (part_of base base) (flat_map (λ (t : CellRows). t.rows) tables))
+      → IfOk result (λ t. (rows : List (List Val)) → AreBases aggs dicts rows tables → IsBase aggs dicts rows t)
+  joined_is tables (Ok t) mask forms gives = λ rows bases. record {
+    mask = mask;
+    forms = forms;
+    rows = gives ∙ (λ i. gathered (sym (forms_from dicts (key_width aggs dicts) aggs) i) (part_of base base) (rows_of_tables bases.pieces tables bases.each i))
+        ∙ from_pieces ms dicts (key_width aggs dicts) few_dims bases.pieces ∙ ap (aggregated ms key) bases.cut;
+  }
+  joined_is tables (Err e) mask forms gives = tt
+
+-- ---- the tables of rows that are cut
+
+module _ (aggs : List Agg) (dicts : List (List Val)) where
+  each_list : (pieces : List (Bor (List (List Val)))) (tables : List CellRows) → AllZip (λ (p : Bor (List (List Val))) (t : CellRows). IsBase aggs dicts p.now t) pieces tables
+      → AllZip (IsBase aggs dicts) (map (λ (p : Bor (List (List Val))). p.now) pieces) tables
+  each_list [] [] h = tt
+  each_list [] (t ∷ tables) h = absurd h
+  each_list (p ∷ pieces) [] h = absurd h
+  each_list (p ∷ pieces) (t ∷ tables) h = (h.0, each_list pieces tables h.1)
+
+  pub bases_cut : (pieces : List (Bor (List (List Val)))) (rows : List (List Val)) (tables : List CellRows) → flat_map (λ (p : Bor (List (List Val))). p.now) pieces ≡ rows
+      → AllZip (λ (p : Bor (List (List Val))) (t : CellRows). IsBase aggs dicts p.now t) pieces tables → AreBases aggs dicts rows tables
+  bases_cut pieces rows tables cut each = record {
+    pieces = map (λ (p : Bor (List (List Val))). p.now) pieces;
+    cut = flat_map-map (λ (piece : List (List Val)). piece) (λ (p : Bor (List (List Val))). p.now) pieces ∙ cut;
+    each = each_list pieces tables each;
+  }
+
+  pub bases_none : AreBases aggs dicts [] []
+  bases_none = record { pieces = []; cut = refl; each = tt }
+
+  each_append : (xs ys : List (List (List Val))) (ts us : List CellRows) → AllZip (IsBase aggs dicts) xs ts → AllZip (IsBase aggs dicts) ys us → AllZip (IsBase aggs dicts) (xs ++ ys) (ts ++ us)
+  each_append [] ys [] us h k = k
+  each_append [] ys (t ∷ ts) us h k = absurd h
+  each_append (x ∷ xs) ys [] us h k = absurd h
+  each_append (x ∷ xs) ys (t ∷ ts) us h k = (h.0, each_append xs ys ts us h.1 k)
+
+  -- the tables of two parts are those of both
+  pub bases_append : (xs ys : List (List Val)) (ts us : List CellRows) → AreBases aggs dicts xs ts → AreBases aggs dicts ys us → AreBases aggs dicts (xs ++ ys) (ts ++ us)
+  bases_append xs ys ts us a b = record {
+    pieces = a.pieces ++ b.pieces;
+    cut = flat_map-append (λ (piece : List (List Val)). piece) a.pieces b.pieces ∙ (λ i. a.cut i ++ b.cut i);
+    each = each_append a.pieces b.pieces ts us a.each b.each;
+  }

@@ -1,4 +1,5 @@
 pub mod Base
+pub mod Pieces
 pub mod Cuboids
 pub mod Layers
 pub mod Meanings

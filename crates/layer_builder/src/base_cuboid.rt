@@ -1,6 +1,6 @@
 // The base cuboid.
 
-ghost use Rattle.std.specs.Prelude.{◌≡◌, ◌≤◌, ◌<◌, ◌+◌, ◌^◌, ◌∷◌, [], All, IfOk, length, map};
+ghost use Rattle.std.specs.Prelude.{◌≡◌, ◌≤◌, ◌<◌, ◌+◌, ◌^◌, ◌∷◌, [], All, IfOk, List, length, map};
 ghost use Rattle.std.specs.List.{AllZip, flat_map};
 ghost use Rattle.std.specs.List.Sorted.{IsSortedBy};
 ghost use Rattle.std.specs.Ordering.{is_lt};
@@ -8,13 +8,15 @@ ghost use Rattle.measure_laws.specs.Measures.{most_items};
 ghost use Rattle.cell_gather.specs.Gathers.{gathered};
 ghost use Rattle.cell_gather.specs.Keys.{part_of};
 ghost use Rattle.cell_store.specs.Cells.{ItemsAreFew, key_cmp};
+ghost use Rattle.cube_val.specs.declared.val.Val.{Val};
 ghost use Rattle.layer_builder.specs.Base.{IsBase, base_mask, count_of_distincts, form_of_kind, measures_from};
+ghost use Rattle.layer_builder.specs.Pieces.{AreBases, ArePieces};
 ghost use Rattle.layer_builder.specs.Runs.{cells_by_key};
 
 use crate::cells::{distincts, forms_of, run_cells};
 use crate::keys::keyed_rows;
-use crate::made::all_made;
 use crate::runs::{KeyedRow, run_len, sorted_rows};
+use crate::table_results::all_made;
 use agg_group::Mask;
 use cell_gather::{add_rows, gather, kept_dims};
 use cell_store::{CellTable, Steps};
@@ -169,6 +171,44 @@ pub(crate) fn joined<L: Ledger>(
     gather(alloc, mask, forms, rows)
 }
 
+/// The base cuboids of rows that are cut into at most so many pieces.
+pub fn base_pieces<R: Threads + Sync>(
+    rt: &R,
+    alloc: Global,
+    rows: &[Row],
+    dicts: &DictSet,
+    forms: &[Agg],
+    pieces: u32,
+) -> Result<Vec<CellTable>, AllocError>
+    requires pieces { 0 < pieces }
+    requires dims { count_of_distincts forms.now < length dicts.now }
+    requires few_dims { length dicts.now ≤ count_of_distincts forms.now + 64 }
+    requires few { length rows.now ≤ most_items }
+    ensures { IfOk result (λ tables. AreBases forms.now dicts.now rows.now tables.items) }
+{
+    let kinds = forms_of(alloc, forms)?;
+    let size = rows.len().saturating_sub(1) / pieces as usize + 1;
+    let parts = cut(alloc, rows, size)?;
+    tables_of(rt, alloc, dicts, forms, &kinds, &parts)
+}
+
+/// The base cuboid of rows, from those of the pieces that they were cut into.
+pub fn base_of_pieces(
+    alloc: Global,
+    dicts: &DictSet,
+    forms: &[Agg],
+    tables: &[CellTable],
+) -> Result<CellTable, AllocError>
+    requires dims { count_of_distincts forms.now < length dicts.now }
+    requires few_dims { length dicts.now ≤ count_of_distincts forms.now + 64 }
+    requires pieces { ArePieces forms.now dicts.now tables.now }
+    ensures { IfOk result (λ table. (rows : List (List Val)) → AreBases forms.now dicts.now rows tables.now → IsBase forms.now dicts.now rows table) }
+{
+    let kinds = forms_of(alloc, forms)?;
+    let mask = base_mask(dicts.len() - distincts(forms));
+    joined::<Brand>(alloc, mask, &kinds, tables, Blank::new(1))
+}
+
 /// The base cuboid: the aggregate of rows by all rowkey columns, in dictionary numbers. There is a dictionary for each rowkey
 /// column and then one for each COUNT_DISTINCT, in order. The rows are cut into at most so many pieces, and the answer is
 /// the same for every number of them. A row that has no number in the column of a SUM, MIN or MAX counts as 0 there.
@@ -186,14 +226,10 @@ pub fn base<R: Threads + Sync>(
     requires few { length flat.now ≤ most_items }
     ensures { IfOk result (IsBase forms.now dicts.now flat.now) }
 {
-    let rows = flat.rows();
-    let kinds = forms_of(alloc, forms)?;
     if pieces == 1 {
-        return piece(alloc, dicts, forms, &kinds, rows);
+        let kinds = forms_of(alloc, forms)?;
+        return piece(alloc, dicts, forms, &kinds, flat.rows());
     }
-    let size = rows.len().saturating_sub(1) / pieces as usize + 1;
-    let parts = cut(alloc, rows, size)?;
-    let tables = tables_of(rt, alloc, dicts, forms, &kinds, &parts)?;
-    let mask = base_mask(dicts.len() - distincts(forms));
-    joined::<Brand>(alloc, mask, &kinds, &tables, Blank::new(1))
+    let tables = base_pieces(rt, alloc, flat.rows(), dicts, forms, pieces)?;
+    base_of_pieces(alloc, dicts, forms, &tables)
 }

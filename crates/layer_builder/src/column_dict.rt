@@ -4,7 +4,7 @@ ghost use Rattle.std.specs.Prelude.{◌≡◌, ◌⊎◌, ◌≤◌, ◌<◌, �
 ghost use Rattle.dim_dictionary.specs.Dictionaries.{dictionary_of};
 ghost use Rattle.plain_answer.specs.Aggregates.{cell};
 
-use crate::recent::Recent;
+use crate::place_cache::PlaceCache;
 use cube_val::{Row, Val};
 use dim_dictionary::Dict;
 use std::alloc::{AllocError, Global};
@@ -12,17 +12,17 @@ use std::alloc::{AllocError, Global};
 // Adds a value, unless it is found among those before it.
 fn add_value(
     values: &mut Vec<Val>,
-    recent: &mut Recent,
+    cache: &mut PlaceCache,
     column: usize,
     v: &Val,
 ) -> Result<(), AllocError>
     ensures { OnOk result ((values.new.items ≡ values.old.items ++ v.now ∷ []) ⊎ ((values.new.items ≡ values.old.items) × Contains values.old.items v.now)) }
 {
-    if let Some(_place) = recent.find(column, v, values) {
+    if let Some(_place) = cache.find(column, v, values) {
         return Ok(());
     }
     if let Ok(place) = u32::try_from(values.len()) {
-        recent.keep(column, v, place);
+        cache.keep(column, v, place);
     }
     values.push(v.copy()?)?;
     Ok(())
@@ -31,15 +31,15 @@ fn add_value(
 // Adds a row's value in the column; one that isn't there reads as null.
 fn add_cell(
     values: &mut Vec<Val>,
-    recent: &mut Recent,
+    cache: &mut PlaceCache,
     column: usize,
     row: &Row,
 ) -> Result<(), AllocError>
     ensures { OnOk result ((values.new.items ≡ values.old.items ++ cell row.now column ∷ []) ⊎ ((values.new.items ≡ values.old.items) × Contains values.old.items (cell row.now column))) }
 {
     match row.vals().get(column) {
-        Some(v) => add_value(values, recent, column, v),
-        None => add_value(values, recent, column, &Val::Null),
+        Some(v) => add_value(values, cache, column, v),
+        None => add_value(values, cache, column, &Val::Null),
     }
 }
 
@@ -48,10 +48,10 @@ fn values_of(alloc: Global, rows: &[Row], column: usize) -> Result<Vec<Val>, All
     ensures dictionary { IfOk result (λ values. dictionary_of values.items ≡ dictionary_of (map (λ row. cell row column) rows.now)) }
     ensures few { IfOk result (λ values. length values.items ≤ length rows.now) }
 {
-    let mut recent = Recent::new(alloc, rows.len())?;
+    let mut cache = PlaceCache::new(alloc, rows.len())?;
     let mut values = Vec::new(alloc);
     for row in rows {
-        add_cell(&mut values, &mut recent, column, row)?;
+        add_cell(&mut values, &mut cache, column, row)?;
     }
     Ok(values)
 }

@@ -10,7 +10,7 @@ ghost use Rattle.layer_builder.specs.Cuboids.{IsCuboid};
 use crate::base_cuboid::{cut, joined, piece};
 use crate::cells::forms_of;
 use crate::layers::regroup_uncounted;
-use crate::made::all_made;
+use crate::table_results::all_made;
 use agg_group::Mask;
 use cell_store::CellTable;
 use cube_val::Row;

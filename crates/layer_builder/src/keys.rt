@@ -5,7 +5,7 @@ ghost use Rattle.cube_val.specs.Order.{number_of};
 ghost use Rattle.plain_answer.specs.Aggregates.{cell};
 ghost use Rattle.layer_builder.specs.Base.{dict_at, key_in, number_in, value_at};
 
-use crate::recent::Recent;
+use crate::place_cache::PlaceCache;
 use crate::runs::{INLINE, KeyedRow};
 use cube_val::{Row, Val};
 use dim_dictionary::{Dict, DictSet};
@@ -45,26 +45,26 @@ pub(crate) fn number_at(vals: &[Val], column: Option<usize>) -> i64
 }
 
 // The number of a column's value in the column's dictionary.
-fn number_of_value(dict: &Dict, recent: &mut Recent, column: usize, v: &Val) -> u32
+fn number_of_value(dict: &Dict, cache: &mut PlaceCache, column: usize, v: &Val) -> u32
     ensures { result ≡ number_in dict.now v.now }
 {
-    if let Some(id) = recent.find(column, v, dict.values()) {
+    if let Some(id) = cache.find(column, v, dict.values()) {
         return id;
     }
     let id = dict.lower_bound(v);
-    recent.keep(column, v, id);
+    cache.keep(column, v, id);
     id
 }
 
 // The number of a row's value in a column that has a dictionary. A column that isn't there reads as null.
-fn number_in_column(dicts: &DictSet, recent: &mut Recent, column: usize, row: &Row) -> u32
+fn number_in_column(dicts: &DictSet, cache: &mut PlaceCache, column: usize, row: &Row) -> u32
     requires { column < length dicts.now }
     ensures { result ≡ number_in (dict_at dicts.now column) (cell row.now column) }
 {
     let dict = dicts.get(column);
     match row.vals().get(column) {
         None => dict.lower_bound(&Val::Null),
-        Some(v) => number_of_value(dict, recent, column, v),
+        Some(v) => number_of_value(dict, cache, column, v),
     }
 }
 
@@ -73,7 +73,7 @@ pub(crate) fn key_of(
     alloc: Global,
     dicts: &DictSet,
     width: usize,
-    recent: &mut Recent,
+    cache: &mut PlaceCache,
     row: &Row,
 ) -> Result<SmallVec<u32, INLINE>, AllocError>
     requires { width ≤ length dicts.now }
@@ -81,7 +81,7 @@ pub(crate) fn key_of(
 {
     let mut key = SmallVec::new(alloc);
     for column in 0..width {
-        key.push(number_in_column(dicts, recent, column, row))?;
+        key.push(number_in_column(dicts, cache, column, row))?;
     }
     Ok(key)
 }
@@ -96,10 +96,10 @@ pub(crate) fn keyed_rows<'a>(
     requires { width ≤ length dicts.now }
     ensures { IfOk result (λ keyed. keyed.items ≡ map (λ row. (key_in dicts.now width row, row)) rows.now) }
 {
-    let mut recent = Recent::new(alloc, rows.len())?;
+    let mut cache = PlaceCache::new(alloc, rows.len())?;
     let mut keyed = Vec::with_capacity(alloc, rows.len())?;
     for row in rows {
-        let key = key_of(alloc, dicts, width, &mut recent, row)?;
+        let key = key_of(alloc, dicts, width, &mut cache, row)?;
         let vals = row.vals();
         keyed.push(KeyedRow::new(key, vals))?;
     }

@@ -5,7 +5,7 @@ ghost use Rattle.std.specs.List.{AllZip};
 ghost use Rattle.agg_group.specs.Mask.{IsWithin};
 ghost use Rattle.layer_builder.specs.Layers.{HasParent, IsRegrouped, IsWanted};
 
-use crate::made::all_made;
+use crate::table_results::all_made;
 use agg_group::Mask;
 use cell_gather::{add_rows, gather, kept_dims};
 use cell_store::{CellTable, Steps};

@@ -5,8 +5,8 @@ ghost use Rattle.fault_lines.specs.Lines.{Appends};
 ghost use Rattle.run_inputs.specs.Lines.{Refuses, bad_script_line};
 
 use crate::fault::{InputFault, InputRefusal};
-use fault_lines::status::{BAD_SCRIPT, MEMORY, READ_FAULT, TOO_LARGE};
-use fault_lines::{refuse, refuse_path, refuse_table};
+use fault_lines::status::{BAD_SCRIPT, MEMORY};
+use fault_lines::{refuse, refuse_table, refuse_too_large, refuse_unread};
 use outside::Sink;
 use std::alloc::Global;
 
@@ -29,10 +29,10 @@ pub fn refuse_inputs<S: Sink>(alloc: Global, sink: &mut S, refusal: InputRefusal
     match refusal {
         InputRefusal::Memory => MEMORY,
         InputRefusal::Fault(InputFault::ReadFault(path)) => {
-            refuse_path(alloc, sink, "ReadFault", path.as_str(), READ_FAULT)
+            refuse_unread(alloc, sink, path.as_str())
         }
         InputRefusal::Fault(InputFault::TooLarge(path)) => {
-            refuse_path(alloc, sink, "TooLarge", path.as_str(), TOO_LARGE)
+            refuse_too_large(alloc, sink, path.as_str())
         }
         InputRefusal::Fault(InputFault::BadScript(line)) => refuse_script(alloc, sink, line),
         InputRefusal::Fault(InputFault::BadTable(path, fault)) => {

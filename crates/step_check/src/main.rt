@@ -8,6 +8,9 @@
 //! - `run` and a file: that of a task for `cubes step` over files in memory. It is answered by the product file that is left, or by the
 //!   fault line. With `stop` in its place something stands at the path of the stop file too.
 //! - `read`, a word and bytes: what a reader of fields finds in front of them (`reading`).
+//! - `looks`, a number and a file: that of a task. It is answered by how often its step looks at a watch that sees a stop at the look with
+//!   the number (at none where that is 0), and by `done`, `Stopped` or `BadTask`. `many`, a number, how many rows there are, the bytes in
+//!   front of them, those of one row, and those behind them, if there are any: the same of the task with this body.
 //!
 //! What is read is written again too: `changed` stands behind it where that gives other bytes. The first lines of `stdin` are files that
 //! another program made (`bench/step_texts.py`), and files with one byte changed. It is no part of the product.
@@ -17,11 +20,13 @@ mod fields;
 mod files;
 mod frames;
 mod lists;
+mod looks;
 mod reading;
 mod rows;
 mod running;
 
 use crate::files::answer_files;
+use crate::looks::{answer_looks, answer_many};
 use crate::reading::answer_read;
 use crate::running::answer_run;
 use check_lines::bytes_of;
@@ -39,6 +44,10 @@ enum Line<'a> {
     Stop(&'a [u8]),
     // What a reader of fields finds.
     Read(&'a [u8]),
+    // How often the step of a task looks.
+    Looks(&'a [u8]),
+    // The same of a task of many rows.
+    Many(&'a [u8]),
     // What heads the lines below it.
     Heading(&'a [u8]),
     // Which step files these are.
@@ -55,8 +64,14 @@ fn line_of(line: &[u8]) -> Line<'_> {
     if let Some(digits) = line.strip_prefix(b"stop ") {
         return Line::Stop(digits);
     }
-    match line.strip_prefix(b"read ") {
-        Some(rest) => Line::Read(rest),
+    if let Some(rest) = line.strip_prefix(b"read ") {
+        return Line::Read(rest);
+    }
+    if let Some(rest) = line.strip_prefix(b"looks ") {
+        return Line::Looks(rest);
+    }
+    match line.strip_prefix(b"many ") {
+        Some(rest) => Line::Many(rest),
         None => Line::Files(line),
     }
 }
@@ -72,6 +87,8 @@ fn answer_line<R: Threads + Sync, W: Write>(
         Line::Run(digits) => answer_run(rt, alloc, bytes_of(alloc, digits)?, false, out),
         Line::Stop(digits) => answer_run(rt, alloc, bytes_of(alloc, digits)?, true, out),
         Line::Read(rest) => answer_read(alloc, rest, out),
+        Line::Looks(rest) => answer_looks(rt, alloc, rest, out),
+        Line::Many(rest) => answer_many(rt, alloc, rest, out),
         Line::Heading(text) => answer_heading(text, out),
         Line::Files(files) => answer_files(alloc, files, out),
     }

@@ -1,3 +1,4 @@
+pub mod BaseFacts
 pub mod ColumnFacts
 pub mod LayerFacts
 pub mod WatchFacts

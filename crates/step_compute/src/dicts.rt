@@ -7,7 +7,7 @@ ghost use Rattle.step_compute.specs.Values.{dict_value, values_in};
 ghost use Rattle.step_compute.specs.Watched.{Looked, SawStop};
 
 use crate::fault::StepFault;
-use crate::watching::look;
+use crate::watching::{ROWS_PER_LOOK, look};
 use cube_desc::CubeDesc;
 use cube_desc::flat_row::dict_places;
 use cube_val::{Row, Val};
@@ -15,9 +15,6 @@ use dim_dictionary::{Dict, DictSet};
 use outside::Watch;
 use plain_answer::FlatRows;
 use std::alloc::{AllocError, Global};
-
-// How many rows are gone through after a look.
-const ROWS_PER_LOOK: usize = 1_000;
 
 // The value at a place of a row; null where it has none there.
 fn value_at(row: &Row, place: usize) -> Result<Val, AllocError>

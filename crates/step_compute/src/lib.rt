@@ -5,9 +5,9 @@
 //! neither files nor bytes.
 //!
 //! At its boundary: each call gives the value that the definitions of `specs/Values.antt` give, or wants memory, or was
-//! stopped. A stop is answered only where one was seen. Looks are taken before a join, before the base cuboid, before each
-//! batch of at most eight cuboids, and before each thousand rows of a column that a dictionary is made of; no contract
-//! counts them.
+//! stopped. A stop is answered only where one was seen. A look is taken before each thousand rows that a step goes through
+//! (of the fact table, of a column that a dictionary is made of, of the flat rows that a base cuboid is made of) and before
+//! each batch of at most eight cuboids; no contract counts them.
 //!
 //! The modules: `columns`: which aggregates are kept; `flat`, `dicts`, `base_step`,
 //! `layer_step`: a step each; `watching`: looks at a watch; `fault`; `examples`: the definitions on a few sales.

@@ -18,6 +18,7 @@ use Rattle.cube_desc.specs.declared.desc.MeasureDesc.{MeasureDesc}
 use Rattle.cube_fields.specs.Cells.{FitsCells, FitsId, FitsTable, are_ordered, count_in, measure_of, measures_of, sizes_in}
 use Rattle.cube_fields.specs.declared.forms.Extremes.{Extremes}
 use Rattle.cube_fields.specs.declared.forms.CellTableForm.{CellTableForm}
+use Rattle.cube_val.specs.Limits.{row_limit}
 use Rattle.cube_val.specs.declared.val.Val.{Val}
 use Rattle.layer_builder.specs.Base.{base_mask, base_rows, dict_at, form_of_kind, key_in, key_width, measures_from}
 use Rattle.layer_builder.proofs.BaseFacts.{forms_from as measured_forms}
@@ -75,7 +76,7 @@ module _ (c : Cube) (dicts : List (List Val)) (small : (i : ℕ) → length (dic
   kept = others c.measures
 
   abbrev form : CellTableForm
-  form = record { sizes = take width sizes; cells = map (cell_form sizes) (forms_from width (map kept_of kept)); extremes = extremes_of (map kept_of kept); most = 200_000 }
+  form = record { sizes = take width sizes; cells = map (cell_form sizes) (forms_from width (map kept_of kept)); extremes = extremes_of (map kept_of kept); most = row_limit }
 
   abbrev one : List Val → Row
   one row = (key_in dicts width row, Count 1 ∷ cells_of (measures_from dicts width (map (agg_of c) kept)) (row ∷ []))
@@ -98,7 +99,7 @@ module _ (c : Cube) (dicts : List (List Val)) (small : (i : ℕ) → length (dic
         (key_fits dicts width row small (place_held row held))
 
     row_cells : (row : List Val) → FitsRow (flat_columns c) row → holds columns dicts row ≡ true → FitsCells form.most form.cells (one row).1
-    row_cells row fits held = cells_fit dicts row small (λ place. valid (flat_columns c) row place fits) c width 200_000 c.measures (measure_held row held) (omega arith)
+    row_cells row fits held = cells_fit dicts row small (λ place. valid (flat_columns c) row place fits) c width row_limit c.measures (measure_held row held) (omega arith)
 
     row_order : (row : List Val) → FitsRow (flat_columns c) row → Ordered form.extremes (one row).1
     row_order row fits =
@@ -124,7 +125,7 @@ module _ (c : Cube) (dicts : List (List Val)) (small : (i : ℕ) → length (dic
   extremes_fit : AllByRecursion (AreExtremes form.cells) form.extremes
   extremes_fit = are_extremes_at sizes width kept (no_count c.measures)
 
-  pub rows_fit : length dicts ≡ length columns → (flat : List (List Val)) → length flat ≤ 200_000 → AllByRecursion (FitsRow (flat_columns c)) flat → list_all (holds columns dicts) flat ≡ true
+  pub rows_fit : length dicts ≡ length columns → (flat : List (List Val)) → length flat ≤ row_limit → AllByRecursion (FitsRow (flat_columns c)) flat → list_all (holds columns dicts) flat ≡ true
       → FitsTable form (base_mask width) (record { mask = base_mask width; forms = measures_of form; rows = gathered (measures_of form) (λ key. key) (map one flat) })
   rows_fit len flat most fits held =
       grouped_fits form (base_mask width) (λ (row : Row). row.0) (map one flat) (all_keys len flat held) (all_cells len flat fits held) (all_orders len flat fits) (omega (arith, all_count flat, most)) extremes_fit

@@ -20,8 +20,8 @@ fn short(bytes: &[u8]) -> usize
     bytes.len()
 }
 
-/// The file of what the step of a task makes. It looks at its watch before it begins, before each batch of cuboids and each
-/// thousand rows of a column; want of memory may stand in place of every answer.
+/// The file of what the step of a task makes. It looks at its watch before it begins, and then before each thousand rows that
+/// the step goes through and before each batch of cuboids; want of memory may stand in place of every answer.
 pub fn run_step<R: Threads + Sync, W: Watch>(
     rt: &R,
     alloc: Global,

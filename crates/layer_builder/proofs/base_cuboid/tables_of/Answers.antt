@@ -8,7 +8,7 @@ use Rattle.cell_store.specs.Cells.{CellRows}
 use Rattle.cube_val.specs.declared.val.Val.{Val}
 use Rattle.measure_laws.specs.Measures.{most_items}
 use Rattle.layer_builder.specs.Base.{IsBase}
-use Rattle.layer_builder.proofs.MadeFacts.{all_there}
+use Rattle.layer_builder.proofs.ResultFacts.{all_there}
 use Rattle.layer_builder.proofs.PieceFacts.{part_short}
 use Rattle.layer_builder.proofs.base_cuboid.tables_of.Goals as goal
 

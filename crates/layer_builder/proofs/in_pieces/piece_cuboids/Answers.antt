@@ -8,7 +8,7 @@ use Rattle.cell_store.specs.Cells.{CellRows}
 use Rattle.cube_val.specs.declared.val.Val.{Val}
 use Rattle.measure_laws.specs.Measures.{most_items}
 use Rattle.layer_builder.specs.Cuboids.{IsCuboid}
-use Rattle.layer_builder.proofs.MadeFacts.{all_there}
+use Rattle.layer_builder.proofs.ResultFacts.{all_there}
 use Rattle.layer_builder.proofs.PieceFacts.{part_short}
 use Rattle.layer_builder.proofs.in_pieces.piece_cuboids.Goals as goal
 

@@ -4,7 +4,7 @@ use Rattle.std.specs.List.{AllZip}
 use Rattle.rayon.proofs.ListFacts.{IfOk-then}
 use Rattle.rayon.proofs.ToStd.{slice-AllZip}
 use Rattle.layer_builder.specs.Layers.{HasParent, IsWanted}
-use Rattle.layer_builder.proofs.MadeFacts.{all_there}
+use Rattle.layer_builder.proofs.ResultFacts.{all_there}
 use Rattle.layer_builder.proofs.layers.layer.Goals as goal
 
 pub collect-requires-clause-ready : goal.collect-requires-clause-ready

@@ -7,13 +7,13 @@ use Rattle.run_inputs.proofs.refusal.refuse_inputs.Goals as goal
 pub returns-in-Fault-ReadFault : goal.returns-in-Fault-ReadFault
 returns-in-Fault-ReadFault g c =
     let x = c.in-Fault-ReadFault in
-    refused_as _ _ _ _ c.args.refusal (ReadFault x.path) c.refuse_path.result (x.is ∙ ap Fault x.field-0-is)
-    (record { which = c.refuse_path.ensures.status; line = rw c.as_str.ensures at c.refuse_path.ensures.line; nothing = c.refuse_path.ensures.memory })
+    refused_as _ _ _ _ c.args.refusal (ReadFault x.path) c.refuse_unread.result (x.is ∙ ap Fault x.field-0-is)
+    (record { which = c.refuse_unread.ensures.status; line = rw c.as_str.ensures at c.refuse_unread.ensures.line; nothing = c.refuse_unread.ensures.memory })
 
 pub returns-in-Fault-TooLarge : goal.returns-in-Fault-TooLarge
 returns-in-Fault-TooLarge g c =
     let x = c.in-Fault-TooLarge in
-    let r = c.refuse_path-in-Fault-TooLarge in
+    let r = c.refuse_too_large in
     refused_as _ _ _ _ c.args.refusal (TooLarge x.path) r.result (x.is ∙ ap Fault x.field-0-is)
     (record { which = r.ensures.status; line = rw c.as_str-in-Fault-TooLarge.ensures at r.ensures.line; nothing = r.ensures.memory })
 

@@ -1,6 +1,6 @@
 use Rattle.std.proofs.Common.{◌≡◌, ◌∷◌, ◌++◌, ◌∙◌, [], get_or, sym, take_all, arith}
 use Rattle.std.proofs.lemmas.List.{take_more}
-use Rattle.layer_builder.proofs.recent.are_equal_bytes.Goals as goal
+use Rattle.layer_builder.proofs.place_cache.are_equal_bytes.Goals as goal
 
 pub loop-i-preserved : goal.loop-i-preserved
 loop-i-preserved c =

@@ -53,7 +53,7 @@ fn slot_bits(rows: usize) -> u32
 /// Where values of columns were found before, so that a value that is met again is compared with that one, and with no other of
 /// its dictionary. A place is a guess that is tested, so no contract speaks of the places that are kept.
 #[derive(Drop)]
-pub(crate) struct Recent {
+pub(crate) struct PlaceCache {
     // One more than the place that is kept in a slot, and 0 where none is.
     slots: Vec<u32>,
     // How many of a digest's bits number no slot.
@@ -61,12 +61,12 @@ pub(crate) struct Recent {
     ghost short: { shift < 64 },
 }
 
-impl Recent {
+impl PlaceCache {
     /// With no place yet, for the values of so many rows.
-    pub(crate) fn new(alloc: Global, rows: usize) -> Result<Recent, AllocError> {
+    pub(crate) fn new(alloc: Global, rows: usize) -> Result<PlaceCache, AllocError> {
         let bits = slot_bits(rows);
         let slots = vec![in alloc; 0; (1 << bits) + PROBES]?;
-        Ok(Recent {
+        Ok(PlaceCache {
             slots,
             shift: 64 - bits,
         })

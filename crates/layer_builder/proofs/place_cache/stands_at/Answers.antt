@@ -1,5 +1,5 @@
 use Rattle.std.proofs.Common.{◌∙◌, sym}
-use Rattle.layer_builder.proofs.recent.stands_at.Goals as goal
+use Rattle.layer_builder.proofs.place_cache.stands_at.Goals as goal
 
 pub returns-in-Some-clause-within : goal.returns-in-Some-clause-within
 returns-in-Some-clause-within c told = c.in-Some.ensures.lookup.3.0

@@ -1,4 +1,0 @@
-use Rattle.layer_builder.proofs.base_cuboid.base.Given as goal
-
-abbrev pub ghosts-joined : goal.ghosts-joined
-ghosts-joined g a = record { name = a.blank.name; parts = a.blank.parts }
