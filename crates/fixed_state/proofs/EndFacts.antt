@@ -1,12 +1,13 @@
 -- The job whose step ends.
 use Rattle.std.proofs.Common.{◌≡◌, ℕ, zero, suc, ◌+◌, ◌-◌, ◌<◌, ◌≤◌, OnOk, Bool, true, false, cond, ◌==◌, Option, Some, None, Result, Ok, Err, List, [], ◌∷◌, ◌++◌, length, map, set, slice_get, unwrap_or, refl, sym, ap, ◌∙◌, subst, arith}
-use Rattle.std.proofs.lemmas.Bool.{eqb-true}
+use Rattle.std.proofs.lemmas.Bool.{eq-eqb, eqb-true}
 use Rattle.std.proofs.lemmas.Option.{slice_get-map}
 use Rattle.std.specs.Prelude.{Vec, is_some, option_map}
 use Rattle.std.specs.declared.alloc.Global.{Global}
 use Rattle.fixed_cube.specs.Cells.{Cell, base_of}
 use Rattle.fixed_cube.specs.Cube.{fixed, job_task, rows_of}
-use Rattle.fixed_cube.specs.Tasks.{product_in, product_of}
+use Rattle.byte_frame.specs.Exact.{IsBytes}
+use Rattle.fixed_cube.specs.Tasks.{is_product, product_in, product_of}
 use Rattle.fixed_cube.specs.declared.products.FixedProduct.TheVariants.{Rows as RowsProduct, Cells}
 use Rattle.cube_val.specs.declared.val.Val.{Val}
 use Rattle.job_machine.specs.Job.{Act, JobRecord, is_current, is_last_step, next}
@@ -15,6 +16,8 @@ use Rattle.job_machine.specs.declared.state.Ended.TheVariants as ended
 use Rattle.job_machine.specs.declared.state.JobKind.TheVariants.{Build}
 use Rattle.plain_answer.specs.declared.ask.Ask.{Ask as Query}
 use Rattle.range_list.specs.Ranges.{Interval}
+use Rattle.job_machine.specs.declared.state.JobState.{JobState}
+use Rattle.job_machine.specs.declared.state.JobState.TheVariants.{Finished, Running}
 use Rattle.run_history.specs.Cubes.{Rows, Snapshot}
 use Rattle.run_history.specs.Steps.{end_by}
 use Rattle.run_history.specs.World.{Submitted, World, in_force, job_at, job_of, next_task}
@@ -35,6 +38,7 @@ use Rattle.outside.specs.declared.hand.HandFault.{HandFault}
 use Rattle.outside.specs.declared.hand.HandFault.TheVariants as fault
 use Rattle.run_state.specs.Answers.{is_failure}
 use Rattle.fixed_state.proofs.Jobs.{fits_tables, kept_advance, kept_finish}
+use Rattle.fixed_state.proofs.NextTasks.{after_next}
 use Rattle.fixed_state.proofs.TaskFacts.{last_base, last_no_rows, made_now, next_of_build}
 
 -- ---- the entry of a job
@@ -110,6 +114,25 @@ module _ (honest : Type 0) (s : FixedState) (job attempt : ℕ) (f : IsFixedStat
       let three : t.entry.job.steps ≡ 3 = own_kept.steps in
       omega (arith, counted_now)
 
+  -- else at most one is
+  pub one_more : is_last_step t.entry.job ≡ false → length (kept_of (products_of s) job) < 2
+  one_more more =
+      let progress : t.entry.job.done ≤ t.entry.job.steps = (f.sound.numbered job submitted_now (there_now f.w f.stands)).by_table.progress in
+      let live : t.entry.job.done ≡ t.entry.job.steps → ⊥ = λ all. unfinished t.entry.job.state counts_now.running ((f.sound.numbered job submitted_now (there_now f.w f.stands)).by_table.finished.0 all) in
+      less (length (kept_of (products_of s) job)) t.entry.job.done t.entry.job.steps counted_now own_kept.steps progress live (λ two. clash (sym (eq-eqb (t.entry.job.done + 1) t.entry.job.steps two) ∙ more))
+    where
+      clash : true ≡ false → ⊥
+      clash e = cc
+
+      unfinished : (state : JobState) → state ≡ Running → state ≡ Finished → ⊥
+      unfinished state e g = let h : Running ≡ Finished = sym e ∙ g in cc
+
+      less : (n done steps : ℕ) → n ≡ done → steps ≡ 3 → done ≤ steps → (done ≡ steps → ⊥) → (done + 1 ≡ steps → ⊥) → n < 2
+      less n zero steps e three le ne more = omega (arith, e)
+      less n (suc zero) steps e three le ne more = omega (arith, e)
+      less n (suc (suc zero)) steps e three le ne more = absurd (more (omega (arith, three)))
+      less n (suc (suc (suc m))) steps e three le ne more = absurd (ne (omega (arith, three, le)))
+
   -- the snapshot of the first claim is the one that the task is made of
   pub same_snapshot : (w : World Query) → first_snapshot submitted_now ≡ snapshot_now w submitted_now
   same_snapshot w = ap (λ (tables : List Rows). record { tables = tables; range = submitted_now.range }) (same_tables submitted_now.tables (in_force w) tables_now)
@@ -122,12 +145,15 @@ module _ (honest : Type 0) (s : FixedState) (job attempt : ℕ) (f : IsFixedStat
 
   -- ---- what is kept after a success
 
-  pub advanced_now : (w : World Query) (bytes : Vec ℕ Global) → StandsFor w s → AreKept honest w (products_of s) (data_of s) → (honest → IsProductOf w (job_of w job) attempt (Ok bytes)) → is_last_step t.entry.job ≡ false
+  pub advanced_now : (w : World Query) (bytes : Vec ℕ Global) → StandsFor w s → AreKept honest w (products_of s) (data_of s) → (honest → IsProductOf w (job_of w job) attempt (Ok bytes)) → is_last_step t.entry.job ≡ false → IsBytes bytes.items
+      → ((snapshot : Snapshot) → is_product (task_kept snapshot (kept_of (products_of s) job)) bytes.items ≡ true)
       → AreKept honest (world_ended w job attempt Done) (set (products_of s) (job - 1) (kept_of (products_of s) job ++ bytes.items ∷ [])) (data_of s)
-  advanced_now w bytes i k product more =
+  advanced_now w bytes i k product more b judged =
+      let kept = kept_now w i k in
       kept_advanced honest w (products_of s) (data_of s) k job attempt submitted_now bytes.items (there_now w i) t.current more
       (kept_advance honest submitted_now (kept_of (products_of s) job) bytes.items counts_now.running tables_now
-      (λ h. due_now w bytes i (product h) ∙ ap (λ (snapshot : Snapshot). product_of (job_task snapshot t.entry.job.done)) (sym (same_snapshot w))) (kept_now w i k))
+      (λ h. due_now w bytes i (product h) ∙ ap (λ (snapshot : Snapshot). product_of (job_task snapshot t.entry.job.done)) (sym (same_snapshot w)))
+      (after_next (first_snapshot submitted_now) (kept_of (products_of s) job) bytes.items kept.fits kept.next b (one_more more) (judged (first_snapshot submitted_now))) kept)
 
   pub finished_now : (w : World Query) (bytes : Vec ℕ Global) (sealed : List Cell) (after : List (List Cell)) → StandsFor w s → AreKept honest w (products_of s) (data_of s) → (honest → IsProductOf w (job_of w job) attempt (Ok bytes))
       → is_last_step t.entry.job ≡ true → ((snapshot : Snapshot) → product_in (task_kept snapshot (kept_of (products_of s) job)) bytes.items ≡ Some (Cells sealed))

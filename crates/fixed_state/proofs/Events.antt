@@ -33,6 +33,7 @@ use Rattle.fixed_state.specs.Kept.{AreKept, IsKept, IsLoaded, IsReadyKept}
 use Rattle.fixed_state.specs.Ready.{IsPlaced, base_of_segment, segment_of}
 use Rattle.fixed_state.specs.Tasks.{snapshot_now}
 use Rattle.fixed_state.proofs.Jobs.{IsNoStep, fits_tables, kept_act, kept_advance, kept_claim, kept_finish}
+use Rattle.fixed_state.proofs.NextTasks.{none_after}
 use Rattle.fixed_state.proofs.Pairs.{fits_at, fits_insert, fits_push, fits_set, fits_set_left, job_place}
 use Rattle.fixed_state.proofs.TaskFacts.{origin_of_build}
 
@@ -80,7 +81,7 @@ module _ (honest : Type 0) where
     pub kept_submit : (line : ℕ) (range : Interval) → IsDayRange range → AreKept honest (submitted (record w { line = line }) Build 3 range) (products ++ [] ∷ []) cells
     kept_submit line range days = record {
       loaded = k.loaded;
-      jobs = fits_push (IsKept honest) w.jobs products _ [] k.jobs (record { build = refl; steps = refl; fits = (days, (omega arith, tt)); begun = λ _. refl; counted = λ _. refl; made = λ _ _. refl });
+      jobs = fits_push (IsKept honest) w.jobs products _ [] k.jobs (record { build = refl; steps = refl; fits = (days, (omega arith, tt)); next = none_after; begun = λ _. refl; counted = λ _. refl; made = λ _ _. refl });
       ready = k.ready;
       waiting = k.waiting;
       asked = k.asked;

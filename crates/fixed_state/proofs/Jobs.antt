@@ -14,7 +14,8 @@ use Rattle.run_history.specs.World.{Submitted, World, in_force, is_live}
 use Rattle.run_history.proofs.Jobs.{finish_ends, running_live, same_job}
 use Rattle.step_fields.specs.Fits.{FitsRows}
 use Rattle.fixed_state.specs.Kept.{IsKept, IsLoaded, first_snapshot}
-use Rattle.fixed_state.specs.Tasks.{products_due, snapshot_now}
+use Rattle.fixed_state.specs.Tasks.{IsTaskAfter, products_due, snapshot_now}
+use Rattle.fixed_state.proofs.NextTasks.{none_after}
 
 -- ---- jobs
 
@@ -96,6 +97,7 @@ module _ (honest : Type 0) where
         build = same.kind ∙ k.build;
         steps = same.steps ∙ k.steps;
         fits = k.fits;
+        next = k.next;
         begun = λ none. e ∙ k.begun none;
         counted = λ live. k.counted (live_next act s.job live) ∙ sym e;
         made = λ h live. k.made h (live_next act s.job live) ∙ ap (products_due (first_snapshot s)) (sym e);
@@ -111,6 +113,7 @@ module _ (honest : Type 0) where
         build = same.kind ∙ k.build;
         steps = same.steps ∙ k.steps;
         fits = fits_tables s.tables s.range w.loaded l k.fits;
+        next = k.next;
         begun = λ none. cc;
         counted = λ live. k.counted (live_next Act.Claim s.job live) ∙ sym e;
         made = λ h live. k.made h (live_next Act.Claim s.job live) ∙ (due_tables s.tables s.range (in_force w) s.job.done k.begun ∙ ap (products_due (snapshot_now w s)) (sym e));
@@ -118,8 +121,8 @@ module _ (honest : Type 0) where
 
   -- the success of a step that isn't the last adds its product
   pub kept_advance : (s : Submitted) (kept : List (List ℕ)) (bytes : List ℕ) → s.job.state ≡ Running → is_some s.tables ≡ true
-      → (honest → bytes ≡ product_of (job_task (first_snapshot s) s.job.done)) → IsKept honest s kept → IsKept honest (record s { job = next Act.Advance s.job }) (kept ++ bytes ∷ [])
-  kept_advance s kept bytes running there product k =
+      → (honest → bytes ≡ product_of (job_task (first_snapshot s) s.job.done)) → IsTaskAfter (kept ++ bytes ∷ []) → IsKept honest s kept → IsKept honest (record s { job = next Act.Advance s.job }) (kept ++ bytes ∷ [])
+  kept_advance s kept bytes running there product after k =
       let e : (next Act.Advance s.job).done ≡ s.job.done + 1 = ap (λ (job : JobRecord). job.done) (advanced s.job running) in
       let same = same_job Act.Advance s.job in
       let live = running_live s.job.state running in
@@ -128,6 +131,7 @@ module _ (honest : Type 0) where
         build = same.kind ∙ k.build;
         steps = same.steps ∙ k.steps;
         fits = k.fits;
+        next = after;
         begun = λ none. absurd (absent s.tables there none);
         counted = λ _. length-append kept (bytes ∷ []) ∙ (ap (λ (n : ℕ). n + 1) count ∙ sym e);
         made = λ h _. ap (λ (xs : List (List ℕ)). xs ++ bytes ∷ []) (k.made h live) ∙ (ap (λ (x : List ℕ). products_due (first_snapshot s) s.job.done ++ x ∷ []) (product h) ∙ ap (products_due (first_snapshot s)) (sym (e ∙ add-one s.job.done)));
@@ -146,6 +150,7 @@ module _ (honest : Type 0) where
         build = same.kind ∙ k.build;
         steps = same.steps ∙ k.steps;
         fits = k.fits;
+        next = none_after;
         begun = λ none. absurd (absent s.tables there none);
         counted = λ live. absurd (dead (next Act.Finish s.job).state ends live);
         made = λ h live. absurd (dead (next Act.Finish s.job).state ends live);

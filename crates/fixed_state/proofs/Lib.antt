@@ -1,4 +1,5 @@
 pub mod Pairs
+pub mod NextTasks
 pub mod Jobs
 pub mod TaskFacts
 pub mod Events

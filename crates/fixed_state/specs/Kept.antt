@@ -14,7 +14,7 @@ use Rattle.run_history.specs.World.{Submitted, World, is_live}
 use Rattle.step_fields.specs.Fits.{FitsRows}
 use Rattle.fixed_state.specs.Ready.{base_of_segment}
 use Rattle.fixed_state.specs.States.{FixedState, StandsFor}
-use Rattle.fixed_state.specs.Tasks.{products_due}
+use Rattle.fixed_state.specs.Tasks.{IsTaskAfter, products_due}
 use Rattle.run_history.specs.Invariants.{IsSound}
 use Rattle.run_state.specs.Orders.{IsOrderly, data_of, products_of}
 
@@ -28,12 +28,13 @@ pub record IsLoaded (loaded : List (Option Rows)) : Type 0 where
 abbrev pub first_snapshot : Submitted → Snapshot
 first_snapshot s = record { tables = unwrap_or s.tables []; range = s.range }
 
--- a job, and the products kept of its steps done: it is a BUILD of three steps, whose snapshot fits; while it is live one product is kept
--- for each step done, and where hands are honest these are the products of its tasks
+-- a job, and the products kept of its steps done: it is a BUILD of three steps, whose snapshot fits, and the task after these products is
+-- one; while it is live one product is kept for each step done, and where hands are honest these are the products of its tasks
 pub record IsKept (honest : Type 0) (s : Submitted) (products : List (List ℕ)) : Type 0 where
   pub build : s.job.kind ≡ Build
   pub steps : s.job.steps ≡ 3
   pub fits : FitsSnapshot (first_snapshot s)
+  pub next : IsTaskAfter products
   pub begun : s.tables ≡ None → s.job.done ≡ 0
   pub counted : is_live s.job.state ≡ true → length products ≡ s.job.done
   pub made : honest → is_live s.job.state ≡ true → products ≡ products_due (first_snapshot s) s.job.done

@@ -1,7 +1,7 @@
 -- The task of a job's next step, from the products that are kept of the steps done.
-use Rattle.std.specs.Prelude.{ℕ, zero, suc, ◌-◌, List, [], ◌∷◌, ◌++◌, Option, Some, None, length, slice_get, unwrap_or}
+use Rattle.std.specs.Prelude.{◌≡◌, ℕ, zero, suc, ◌-◌, List, [], ◌∷◌, ◌++◌, Option, Some, None, length, slice_get, unwrap_or}
 use Rattle.fixed_cube.specs.Cube.{job_task, task_after}
-use Rattle.fixed_cube.specs.Tasks.{product_of}
+use Rattle.fixed_cube.specs.Tasks.{IsTask, product_of}
 use Rattle.run_history.specs.Cubes.{Rows, Snapshot}
 use Rattle.run_history.specs.World.{Submitted, World, in_force}
 use Rattle.run_state.specs.States.{rows_in_force, snapshot_of}
@@ -15,6 +15,10 @@ task_by snapshot done (Some product) = task_after done product
 -- the task of the next step of a job over a snapshot, of whose steps these products are kept
 abbrev pub task_kept : Snapshot → List (List ℕ) → List ℕ
 task_kept snapshot products = task_by snapshot (length products) (slice_get products (length products - 1))
+
+-- the task after the last of these products is a task
+abbrev pub IsTaskAfter : List (List ℕ) → Type 0
+IsTaskAfter products = (product : List ℕ) → slice_get products (length products - 1) ≡ Some product → IsTask (task_after (length products) product)
 
 -- the products of the first steps, as the tasks ask for them
 abbrev pub products_due : Snapshot → ℕ → List (List ℕ)

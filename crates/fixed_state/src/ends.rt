@@ -1,6 +1,7 @@
 // The ends of steps.
 
 ghost use Rattle.std.specs.Prelude.{◌≡◌, ◌+◌, ◌-◌, ◌<◌, ◌^◌, [], true, false, None, Some, Ok, IfErr, MatchResult, OnErr, OnOk, length, slice_set};
+ghost use Rattle.byte_frame.specs.Exact.{IsBytes};
 ghost use Rattle.fixed_cube.specs.Products.{IfDamaged};
 ghost use Rattle.fixed_cube.specs.Tasks.{product_in};
 ghost use Rattle.run_history.specs.Cubes.{Snapshot};
@@ -54,7 +55,8 @@ fn read_next(
     bytes: &[u8],
 ) -> Result<FixedProduct, ProductFault>
     requires { length kept.now < 255 }
-    ensures { (snapshot : Snapshot) → MatchResult result (λ product. product_in (task_kept snapshot kept.now) bytes.now ≡ Some product) (λ fault. IfDamaged fault (product_in (task_kept snapshot kept.now) bytes.now ≡ None)) }
+    ensures bytes { IsBytes bytes.now }
+    ensures product { (snapshot : Snapshot) → MatchResult result (λ product. product_in (task_kept snapshot kept.now) bytes.now ≡ Some product) (λ fault. IfDamaged fault (product_in (task_kept snapshot kept.now) bytes.now ≡ None)) }
 {
     let done = kept.len();
     if done == 0 {
@@ -110,6 +112,7 @@ fn keep<H: Honest>(
     requires current { is_current_at (entry_at state.old.jobs.items job) attempt ≡ true }
     requires version { state.old.version + 1 < 2 ^ 32 }
     requires product { (snapshot : Snapshot) → product_in (task_kept snapshot (kept_of (products_of state.old) job)) bytes.items ≡ Some product }
+    requires bytes { IsBytes bytes.items }
     ensures state { OnOk result ((w : World Query) → StandsFor w state.old → StandsFor (world_ended w job attempt Done) state.new) }
     ensures kept { OnOk result ((w : World Query) → StandsFor w state.old → AreKept H.honest w (products_of state.old) (data_of state.old) → (H.honest → IsProductOf w (job_of w job) attempt (Ok bytes)) → AreKept H.honest (world_ended w job attempt Done) (products_of state.new) (data_of state.new)) }
     ensures products { OnOk result (products_of state.new ≡ products_after (ended_at (entry_at state.old.jobs.items job) attempt Done) job (Ok bytes) (products_of state.old)) }

@@ -5,7 +5,6 @@ use Rattle.std.specs.Option.{IsSome}
 use Rattle.fixed_cube.specs.Columns.{row_limit}
 use Rattle.fixed_cube.specs.Cube.{FitsSnapshot, fact_rows, fixed}
 use Rattle.fixed_cube.specs.Tasks.{IsTask}
-use Rattle.fixed_cube.proofs.JobFacts.{has_task}
 use Rattle.fixed_state.specs.Ends.{kept_of}
 use Rattle.fixed_state.specs.Kept.{AreKept, IsKept}
 use Rattle.fixed_state.specs.States.{FixedEntry, FixedState, StandsFor, rows_seen}
@@ -13,7 +12,8 @@ use Rattle.fixed_state.specs.Tasks.{snapshot_at, snapshot_now, task_kept}
 use Rattle.fixed_state.proofs.EndFacts.{job_there, kept_at}
 use Rattle.fixed_state.proofs.Events.{kept_of_job}
 use Rattle.fixed_state.proofs.Jobs.{fits_tables}
-use Rattle.fixed_state.proofs.TaskFacts.{next_of_build, task_is}
+use Rattle.fixed_state.proofs.NextTasks.{kept_task}
+use Rattle.fixed_state.proofs.TaskFacts.{task_is}
 use Rattle.job_machine.specs.Job.{waits_in}
 use Rattle.job_machine.specs.declared.state.JobState.{JobState}
 use Rattle.job_machine.specs.declared.state.JobState.TheVariants.{Pending, Running, Error, Stopped, Discarded, Finished}
@@ -88,10 +88,6 @@ module _ (honest : Type 0) (w : World Query) (s : FixedState) (i : StandsFor w s
   pub honest_here : (x : Submitted) (task : List ℕ) → job_of w job ≡ Some x → is_live x.job.state ≡ true → honest → task ≡ task_kept (snapshot_now w x) (kept_of (products_of s) job) → task ≡ next_task fixed w x
   honest_here x task there live h made = made ∙ task_is honest w x (kept_of (products_of s) job) (kept_job x there) h live
 
-  pub is_task_here : (x : Submitted) (task : List ℕ) → job_of w job ≡ Some x → is_live x.job.state ≡ true → task ≡ next_task fixed w x → IsTask task
-  is_task_here x task there live e =
-      subst IsTask (sym (e ∙ next_of_build w x (kept_job x there).build)) (has_task (snapshot_now w x) x.job.done (fits_job x there) (more_steps x there live))
-
   module _ (front : slice_get s.queue.items 0 ≡ Some job) where
     claimable_here : is_claimable_at (entry_at s.jobs.items job) ≡ true
     claimable_here = sym (queued fixed rows_seen w s sound i job) ∙ has_first s.queue.items job front
@@ -124,9 +120,9 @@ module _ (honest : Type 0) (w : World Query) (s : FixedState) (i : StandsFor w s
         let same : length (kept_of (products_of s) job) ≡ length entry.products.items = ap length (kept_at s job entry e) in
         omega arith
 
-    -- the job of the front is there
-    pub is_task_first : (task : List ℕ) → honest → ((entry : FixedEntry) → entry_at s.jobs.items job ≡ Some entry → task ≡ task_kept (snapshot_at entry s.loaded.items) entry.products.items) → IsTask task
-    is_task_first task h made = by_entry (entry_at s.jobs.items job) refl
+    -- what is made for the job of the front is a task
+    pub is_task_first : (task : List ℕ) → ((entry : FixedEntry) → entry_at s.jobs.items job ≡ Some entry → task ≡ task_kept (snapshot_at entry s.loaded.items) entry.products.items) → IsTask task
+    is_task_first task made = by_entry (entry_at s.jobs.items job) refl
       where
         by_entry : (o : Option FixedEntry) → entry_at s.jobs.items job ≡ o → IsTask task
         by_entry None e = let clash : false ≡ true = sym (ap is_claimable_at e) ∙ claimable_here in absurd (no clash)
@@ -136,4 +132,4 @@ module _ (honest : Type 0) (w : World Query) (s : FixedState) (i : StandsFor w s
         by_entry (Some entry) e =
             let x = submitted_of rows_seen entry in
             let there = job_there w s job entry i e in
-            is_task_here x task there (entry_live entry e) (honest_here x task there (entry_live entry e) h (task_here x task there made))
+            subst IsTask (sym (task_here x task there made)) (kept_task (snapshot_now w x) (kept_of (products_of s) job) (fits_job x there) (kept_job x there).next)

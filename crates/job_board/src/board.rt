@@ -303,7 +303,8 @@ impl<H: Honest> Board<H> {
         self.state.steps.len() + self.state.asked.len() < self.state.workers as usize
     }
 
-    /// Claims the next step of the first job in the queue; `None` exactly where the queue is empty.
+    /// Claims the next step of the first job in the queue; `None` exactly where the queue is empty. Whatever the hands gave, what is
+    /// claimed is a task.
     pub fn claim(&mut self) -> Result<Option<Work>, AllocError>
         requires room { 0 < self.old.room }
         requires worker { busy (now self.old) < (now self.old).workers }
@@ -314,7 +315,7 @@ impl<H: Honest> Board<H> {
         ensures attempt { IfOk result (λ found. IfSome found (λ work. IsNextAttempt (job_of (now self.old) work.job) work.attempt)) }
         ensures task { IfOk result (λ found. IfSome found (λ work. (s : Submitted) → job_of (now self.old) work.job ≡ Some s → work.task.items ≡ task_of (now self.old) s (kept_of self.old.products work.job))) }
         ensures honest_task { IfOk result (λ found. IfSome found (λ work. (s : Submitted) → job_of (now self.old) work.job ≡ Some s → H.honest → work.task.items ≡ next_task fixed (now self.old) s)) }
-        ensures is_task { IfOk result (λ found. IfSome found (λ work. H.honest → IsTask work.task.items)) }
+        ensures is_task { IfOk result (λ found. IfSome found (λ work. IsTask work.task.items)) }
         ensures products { self.new.products ≡ self.old.products }
     {
         let Some(job) = self.state.queue.front() else {

@@ -1,5 +1,6 @@
 use Rattle.std.proofs.Common.{◌≡◌, ℕ, ◌+◌, ◌-◌, ◌++◌, ◌∷◌, Option, Some, Ok, List, [], set, refl, sym, ap, ◌∙◌, subst}
 use Rattle.job_machine.specs.declared.state.Ended.{Ended}
+use Rattle.std.specs.Prelude.{is_some}
 use Rattle.run_state.specs.Orders.{data_of, is_last_at, products_of}
 use Rattle.run_state.specs.States.{entry_at}
 use Rattle.fixed_state.specs.Ends.{kept_of, products_after}
@@ -20,7 +21,7 @@ returns-then-not-is_last_step-clause-kept g c =
     on_ok c.end_advanced.result (λ products w i k product.
     kept_again g.H.Honest.honest _ _ _ _ _ (products ∙ ap (λ (bytes : List ℕ). set (products_of c.args.state.now) (c.args.job - 1) (kept_of (products_of c.args.state.now) c.args.job ++ bytes ∷ [])) c.of.ensures) c.end_advanced.ensures.segments
     (advanced_now g.H.Honest.honest c.args.state.now c.args.job c.args.attempt c.requires.fixed_state t w c.args.bytes i k product
-    (more_now g.H.Honest.honest c.args.state.now c.args.job c.args.attempt c.requires.fixed_state t more))) c.end_advanced.ensures.products
+    (more_now g.H.Honest.honest c.args.state.now c.args.job c.args.attempt c.requires.fixed_state t more) c.requires.bytes (λ snapshot. ap is_some (c.requires.product snapshot)))) c.end_advanced.ensures.products
 
 pub returns-then-not-is_last_step-clause-products : goal.returns-then-not-is_last_step-clause-products
 returns-then-not-is_last_step-clause-products g c =

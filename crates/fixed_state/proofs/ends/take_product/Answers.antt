@@ -1,6 +1,7 @@
 use Rattle.std.proofs.Common.{◌≡◌, ℕ, ◌-◌, ◌<◌, false, true, Option, Some, None, List, length, refl, sym, ap, ◌∙◌, subst, arith}
 use Rattle.std.specs.Prelude.{is_some}
 use Rattle.std.proofs.lemmas.Option.{slice_get_read}
+use Rattle.byte_frame.specs.Exact.{IsBytes}
 use Rattle.fixed_cube.specs.Tasks.{is_product, product_in}
 use Rattle.run_state.specs.Orders.{products_of}
 use Rattle.run_state.proofs.Turns.{current_within}
@@ -21,7 +22,7 @@ returns-in-Err-Damaged-clause-why g c = λ snapshot.
     let within = current_within c.args.state.now.jobs.items c.args.job c.args.attempt c.requires.current in
     let read = slice_get_read c.args.state.now.jobs.items _ (c.args.job - 1) c.index-entry.result.now refl within.1 c.index-entry.ensures in
     let kept : kept_of (products_of c.args.state.now) c.args.job ≡ c.deref.result.now = kept_here c.args.state.now c.args.job c.index-entry.result.now read ∙ sym c.deref.ensures.value in
-    let none = rw c.in-Err-Damaged.field-0-is at c.in-Err-Damaged.ensures snapshot in
+    let none = rw c.in-Err-Damaged.field-0-is at c.in-Err-Damaged.ensures.product snapshot in
     ap (λ (xs : List (List ℕ)). is_product (task_kept snapshot xs) c.args.bytes.items) kept ∙ (ap (is_product (task_kept snapshot c.deref.result.now)) (sym c.deref-2.ensures.value) ∙ ap is_some none)
 
 pub keep-requires-clause-product : goal.keep-requires-clause-product
@@ -29,11 +30,14 @@ keep-requires-clause-product g c = λ snapshot.
     let within = current_within c.args.state.now.jobs.items c.args.job c.args.attempt c.requires.current in
     let read = slice_get_read c.args.state.now.jobs.items _ (c.args.job - 1) c.index-entry.result.now refl within.1 c.index-entry.ensures in
     let kept : kept_of (products_of c.args.state.now) c.args.job ≡ c.deref.result.now = kept_here c.args.state.now c.args.job c.index-entry.result.now read ∙ sym c.deref.ensures.value in
-    ap (λ (xs : List (List ℕ)). product_in (task_kept snapshot xs) c.args.bytes.items) kept ∙ (ap (product_in (task_kept snapshot c.deref.result.now)) (sym c.deref-2.ensures.value) ∙ c.in-Ok.ensures snapshot)
+    ap (λ (xs : List (List ℕ)). product_in (task_kept snapshot xs) c.args.bytes.items) kept ∙ (ap (product_in (task_kept snapshot c.deref.result.now)) (sym c.deref-2.ensures.value) ∙ c.in-Ok.ensures.product snapshot)
 
 pub returns-in-Ok-keep-clause-ok : goal.returns-in-Ok-keep-clause-ok
 returns-in-Ok-keep-clause-ok g c = λ snapshot.
     let within = current_within c.args.state.now.jobs.items c.args.job c.args.attempt c.requires.current in
     let read = slice_get_read c.args.state.now.jobs.items _ (c.args.job - 1) c.index-entry.result.now refl within.1 c.index-entry.ensures in
     let kept : kept_of (products_of c.args.state.now) c.args.job ≡ c.deref.result.now = kept_here c.args.state.now c.args.job c.index-entry.result.now read ∙ sym c.deref.ensures.value in
-    ap (λ (xs : List (List ℕ)). is_product (task_kept snapshot xs) c.args.bytes.items) kept ∙ (ap (is_product (task_kept snapshot c.deref.result.now)) (sym c.deref-2.ensures.value) ∙ ap is_some (c.in-Ok.ensures snapshot))
+    ap (λ (xs : List (List ℕ)). is_product (task_kept snapshot xs) c.args.bytes.items) kept ∙ (ap (is_product (task_kept snapshot c.deref.result.now)) (sym c.deref-2.ensures.value) ∙ ap is_some (c.in-Ok.ensures.product snapshot))
+
+pub keep-requires-clause-bytes : goal.keep-requires-clause-bytes
+keep-requires-clause-bytes g c = subst IsBytes c.deref-2.ensures.value c.in-Ok.ensures.bytes

@@ -34,4 +34,4 @@ returns-clause-honest_task g c = subst (λ (l : BoardModel). (s : Submitted) →
     (λ s there h. honest_here g.H.Honest.honest (w g.H.Honest.honest c.self.inside.workers c.self.inside.room c.self.inside.names.items c.self.inside.state c.self.inside.log c.args.self.now c.self.view_is c.self.invariant) c.self.inside.state c.self.invariant.state (sound_here g.H.Honest.honest c.self.inside.workers c.self.inside.room c.self.inside.names.items c.self.inside.state c.self.inside.log c.args.self.now c.self.view_is c.self.invariant) c.self.invariant.kept c.in-Some.job s c.in-Ok.task.items there (live_here g.H.Honest.honest (w g.H.Honest.honest c.self.inside.workers c.self.inside.room c.self.inside.names.items c.self.inside.state c.self.inside.log c.args.self.now c.self.view_is c.self.invariant) c.self.inside.state c.self.invariant.state (sound_here g.H.Honest.honest c.self.inside.workers c.self.inside.room c.self.inside.names.items c.self.inside.state c.self.inside.log c.args.self.now c.self.view_is c.self.invariant) c.self.invariant.kept c.in-Some.job (sym c.front.ensures ∙ c.in-Some.is) s there) h (task_here g.H.Honest.honest (w g.H.Honest.honest c.self.inside.workers c.self.inside.room c.self.inside.names.items c.self.inside.state c.self.inside.log c.args.self.now c.self.view_is c.self.invariant) c.self.inside.state c.self.invariant.state (sound_here g.H.Honest.honest c.self.inside.workers c.self.inside.room c.self.inside.names.items c.self.inside.state c.self.inside.log c.args.self.now c.self.view_is c.self.invariant) c.self.invariant.kept c.in-Some.job s c.in-Ok.task.items there (λ entry there. c.in-Ok.ensures entry there)))
 
 pub returns-clause-is_task : goal.returns-clause-is_task
-returns-clause-is_task g c = λ h. is_task_first g.H.Honest.honest (w g.H.Honest.honest c.self.inside.workers c.self.inside.room c.self.inside.names.items c.self.inside.state c.self.inside.log c.args.self.now c.self.view_is c.self.invariant) c.self.inside.state c.self.invariant.state (sound_here g.H.Honest.honest c.self.inside.workers c.self.inside.room c.self.inside.names.items c.self.inside.state c.self.inside.log c.args.self.now c.self.view_is c.self.invariant) c.self.invariant.kept c.in-Some.job (sym c.front.ensures ∙ c.in-Some.is) c.in-Ok.task.items h (λ entry there. c.in-Ok.ensures entry there)
+returns-clause-is_task g c = is_task_first g.H.Honest.honest (w g.H.Honest.honest c.self.inside.workers c.self.inside.room c.self.inside.names.items c.self.inside.state c.self.inside.log c.args.self.now c.self.view_is c.self.invariant) c.self.inside.state c.self.invariant.state (sound_here g.H.Honest.honest c.self.inside.workers c.self.inside.room c.self.inside.names.items c.self.inside.state c.self.inside.log c.args.self.now c.self.view_is c.self.invariant) c.self.invariant.kept c.in-Some.job (sym c.front.ensures ∙ c.in-Some.is) c.in-Ok.task.items (λ entry there. c.in-Ok.ensures entry there)
