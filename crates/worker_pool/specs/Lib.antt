@@ -1,0 +1,4 @@
+pub mod Lists
+pub mod Pools
+pub mod Answered
+pub mod Examples
