@@ -2,7 +2,7 @@
 //!
 //! A [`Pool`] has hands, and pieces of work in flight. A piece is a claimed step, which a hand runs, or a query, which is answered over the set
 //! that it was given; each takes a free hand, so that there are never more pieces than hands. The pool is generic in the kind of work, in the
-//! hands, and in what a query is ([`QueryPiece`]) and how it may end; [`FixedPool`] is the pool over the fixed cube.
+//! hands, and in what a query is ([`QueryPiece`]) and how it may end.
 //!
 //! At its boundary:
 //!
@@ -13,8 +13,7 @@
 //! - A piece for which no thread can be had is run by whoever starts it, and handed on before any other.
 //! - Nothing is said of the order in which pieces end.
 //!
-//! The modules: `piece`: pieces and their ends; `fixed_query`: the query of the fixed cube; `gate`: where threads say that they are done;
-//! `list`: moves in lists; `flight`: a piece in its thread; `pool`: the pool; `examples`: the definitions, computed.
+//! The modules: `piece`: pieces and their ends; `gate`: where threads say that they are done; `list`: moves in lists; `flight`: a piece in its thread; `pool`: the pool; `examples`: the definitions, computed.
 #![tactic(auto)]
 
 mod examples;
