@@ -1,9 +1,6 @@
-use Rattle.std.proofs.Common.{◌≡◌, ◌∙◌, List, ap, arith, subst}
-use Rattle.layer_builder.specs.Base.{IsBase, count_of_distincts}
-use Rattle.plain_answer.specs.declared.ask.Agg.{Agg}
-use Rattle.rayon.proofs.ListFacts.{IfOk-then}
+use Rattle.std.proofs.Common.{◌≡◌, ◌∙◌, ap, arith}
+use Rattle.layer_builder.specs.Base.{count_of_distincts}
 use Rattle.step_compute.specs.Columns.{kept_aggs}
-use Rattle.step_compute.proofs.BaseFacts.{base_is}
 use Rattle.step_compute.proofs.ColumnFacts.{places_counted}
 use Rattle.step_compute.proofs.base_step.base_value.Goals as goal
 

@@ -1,4 +1,4 @@
-use Rattle.std.proofs.Common.{◌≡◌, ◌+◌, ◌-◌, ◌++◌, ◌∙◌, List, ap, arith, drop, subst, sym, take, take_all}
+use Rattle.std.proofs.Common.{◌≡◌, ◌+◌, ◌-◌, ◌++◌, ◌∙◌, [], List, ap, arith, drop, subst, sym, take, take_all}
 use Rattle.std.proofs.Math.Seq.{take-add}
 use Rattle.cube_val.specs.declared.val.Val.{Val}
 use Rattle.layer_builder.specs.Pieces.{AreBases}
@@ -9,7 +9,7 @@ use Rattle.step_compute.proofs.base_step.in_parts.Goals as goal
 pub loop-start-init : goal.loop-start-init
 loop-start-init g c = record {
   within = omega arith;
-  tables = subst (AreBases c.args.aggs.now c.args.dicts.now []) (sym c.new.ensures.items) (bases_none c.args.aggs.now c.args.dicts.now);
+  tables = subst (AreBases c.args.aggs.now c.args.dicts.now []) (sym c.new-tables.ensures.items) (bases_none c.args.aggs.now c.args.dicts.now);
   looked = looked_none g.W.Watch.seen g.W.Watch.there g.W.Watch.held g.W.Watch.place c.args.watch.now;
 }
 
