@@ -10,11 +10,11 @@
 // The end line is `end FINISHED ERROR STOPPED DISCARDED SEGMENTS`.
 
 use crate::refusals::{kind, name, range, refused, state};
-use check_lines::{Words, unescaped, unknown_line};
-use cube_val::{Items, TextVal};
+use check_lines::{Words, parsed, unescaped, unknown_line};
+use cube_val::{Items, NameText, TextVal};
 use plain_answer::{AnswerTable, OutVal};
 use script_text::{Block, JobLine, SegmentLine, Tally, put_block, put_end};
-use std::alloc::Global;
+use std::alloc::{AllocError, Global};
 use std::io;
 use std::io::Write;
 
@@ -86,14 +86,6 @@ fn segments(alloc: Global, words: &mut Words<'_>) -> io::Result<Block> {
     Ok(Block::Segments(segments))
 }
 
-// A number with a sign.
-fn signed(words: &mut Words<'_>) -> io::Result<i128> {
-    match words.next()?.parse::<i128>() {
-        Ok(number) => Ok(number),
-        Err(_) => Err(unknown_line()),
-    }
-}
-
 // A text of an answer.
 fn text(alloc: Global, words: &mut Words<'_>) -> io::Result<OutVal> {
     let bytes = unescaped(alloc, words.next()?)?;
@@ -107,8 +99,8 @@ fn text(alloc: Global, words: &mut Words<'_>) -> io::Result<OutVal> {
 fn value(alloc: Global, words: &mut Words<'_>) -> io::Result<OutVal> {
     match words.next()? {
         "-" => Ok(OutVal::Null),
-        "whole" => Ok(OutVal::Whole(signed(words)?)),
-        "units" => Ok(OutVal::Units(signed(words)?)),
+        "whole" => Ok(OutVal::Whole(parsed(words.next()?)?)),
+        "units" => Ok(OutVal::Units(parsed(words.next()?)?)),
         "text" => text(alloc, words),
         _ => Err(unknown_line()),
     }
@@ -135,25 +127,31 @@ fn rows(alloc: Global, columns: u32, words: &mut Words<'_>) -> io::Result<Items<
     Ok(rows)
 }
 
-// An answer.
-fn answer(alloc: Global, words: &mut Words<'_>) -> io::Result<Block> {
-    let columns = words.number()?;
+// The names of the columns of an answer.
+fn names(alloc: Global, columns: u32, words: &mut Words<'_>) -> io::Result<Items<NameText>> {
     let mut names = Items::new(alloc);
     for _ in 0..columns {
         names.push(name(alloc, words)?)?;
     }
+    Ok(names)
+}
+
+// An answer.
+fn answer(alloc: Global, words: &mut Words<'_>) -> io::Result<Block> {
+    let columns = words.number()?;
+    let names = names(alloc, columns, words)?;
     let rows = rows(alloc, columns, words)?;
     Ok(Block::Answer(AnswerTable { names, rows }))
 }
 
 // The cube.
 fn cube(alloc: Global, words: &mut Words<'_>) -> io::Result<Block> {
-    let name = name(alloc, words)?;
+    let name = words.next()?;
     let dimensions = words.number()?;
     let measures = words.number()?;
     let cuboids = words.number()?;
     Ok(Block::Cube {
-        name,
+        name: NameText::new(alloc, name.as_bytes())?,
         dimensions,
         measures,
         cuboids,
@@ -162,8 +160,9 @@ fn cube(alloc: Global, words: &mut Words<'_>) -> io::Result<Block> {
 
 // A table that was loaded.
 fn loaded(alloc: Global, words: &mut Words<'_>) -> io::Result<Block> {
-    let table = name(alloc, words)?;
+    let name = words.next()?;
     let rows = words.number()?;
+    let table = NameText::new(alloc, name.as_bytes())?;
     Ok(Block::Loaded { table, rows })
 }
 
@@ -201,6 +200,12 @@ fn block(alloc: Global, words: &mut Words<'_>) -> io::Result<Block> {
     }
 }
 
+// Writes a text that was put together.
+fn put_text<W: Write>(put: Result<(), AllocError>, text: &[u8], out: &mut W) -> io::Result<()> {
+    put?;
+    out.write_all(text)
+}
+
 /// Writes the text of a block.
 pub(crate) fn answer_block<W: Write>(
     alloc: Global,
@@ -210,8 +215,8 @@ pub(crate) fn answer_block<W: Write>(
     let number = words.number()?;
     let block = block(alloc, &mut words)?;
     let mut text = Vec::new(alloc);
-    put_block(alloc, &mut text, number, &block)?;
-    out.write_all(text.as_slice())
+    let put = put_block(alloc, &mut text, number, &block);
+    put_text(put, text.as_slice(), out)
 }
 
 /// Writes the end line.
@@ -223,6 +228,6 @@ pub(crate) fn answer_end<W: Write>(
     let tally = tally(&mut words)?;
     let segments = words.number()?;
     let mut text = Vec::new(alloc);
-    put_end(alloc, &mut text, &tally, segments)?;
-    out.write_all(text.as_slice())
+    let put = put_end(alloc, &mut text, &tally, segments);
+    put_text(put, text.as_slice(), out)
 }

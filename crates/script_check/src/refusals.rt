@@ -1,7 +1,7 @@
 // Why a command is refused, by its word.
 
 use calendar::Day;
-use check_lines::{Words, unknown_line};
+use check_lines::{Words, known, unknown_line};
 use cube_val::NameText;
 use job_machine::{JobKind, JobState};
 use query_faults::{BindFault, BindKind, SqlFault, SqlKind};
@@ -19,20 +19,14 @@ pub(crate) fn name(alloc: Global, words: &mut Words<'_>) -> io::Result<NameText>
 // The day that the next word is.
 fn day(words: &mut Words<'_>) -> io::Result<Day> {
     let word = words.next()?;
-    match Day::read(word.as_bytes()) {
-        Some(day) => Ok(day),
-        None => Err(unknown_line()),
-    }
+    known(Day::read(word.as_bytes()))
 }
 
 /// The range that the next two words are.
 pub(crate) fn range(words: &mut Words<'_>) -> io::Result<Range> {
     let start = day(words)?;
     let end = day(words)?;
-    match Range::new(start, end) {
-        Some(range) => Ok(range),
-        None => Err(unknown_line()),
-    }
+    known(Range::new(start, end))
 }
 
 /// The state that the next word is.

@@ -1,7 +1,7 @@
 // A line of a script behind others.
 
 use check_lines::{Words, out_of_memory, unescaped};
-use script_reader::{Counts, Instruction, LineRefusal, ScriptKind, read_line};
+use script_reader::{Counts, Instruction, LineRefusal, read_line};
 use std::alloc::Global;
 use std::io;
 use std::io::Write;
@@ -27,23 +27,6 @@ fn instruction_word(instruction: &Instruction) -> &'static str {
     }
 }
 
-// The name of a kind of fault.
-fn kind_name(kind: ScriptKind) -> &'static str {
-    match kind {
-        ScriptKind::NotUtf8 => "NotUtf8",
-        ScriptKind::TooManyLines => "TooManyLines",
-        ScriptKind::UnknownCommand => "UnknownCommand",
-        ScriptKind::NoDescriptor => "NoDescriptor",
-        ScriptKind::SecondDescriptor => "SecondDescriptor",
-        ScriptKind::BadArguments => "BadArguments",
-        ScriptKind::BadNumber => "BadNumber",
-        ScriptKind::BadDate => "BadDate",
-        ScriptKind::BadRange => "BadRange",
-        ScriptKind::TooManyLoads => "TooManyLoads",
-        ScriptKind::TooManyJobs => "TooManyJobs",
-    }
-}
-
 // The counts of the lines before.
 fn counts_of(words: &mut Words<'_>) -> io::Result<Counts> {
     let lines = words.number()?;
@@ -62,9 +45,9 @@ pub(crate) fn answer<W: Write>(alloc: Global, mut words: Words<'_>, out: &mut W)
     let counts = counts_of(&mut words)?;
     let line = unescaped(alloc, words.rest())?;
     match read_line(alloc, counts, line.as_slice()) {
-        Ok(None) => writeln!(out, "nothing"),
+        Ok(None) => out.write_all(b"nothing\n"),
         Ok(Some(said)) => writeln!(out, "{}", instruction_word(&said.instruction)),
-        Err(LineRefusal::Fault(kind)) => writeln!(out, "{}", kind_name(kind)),
+        Err(LineRefusal::Fault(kind)) => writeln!(out, "{kind:?}"),
         Err(LineRefusal::Memory) => Err(out_of_memory()),
     }
 }

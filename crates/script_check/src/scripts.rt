@@ -16,26 +16,44 @@ fn put_count<W: Write>(read: &Result<Script, FixedScriptRefusal>, out: &mut W) -
     }
 }
 
-// The command word of a line, with its job or the number of its session.
-fn put_line<W: Write>(line: &Line, out: &mut W) -> io::Result<()> {
-    let number = line.number;
-    match &line.verb {
-        Verb::Descriptor(path) => writeln!(out, "{number} descriptor {}", path.as_str()),
-        Verb::Load(_, path) => writeln!(out, "{number} load {}", path.as_str()),
-        Verb::Build(_) => writeln!(out, "{number} build"),
-        Verb::Refresh(_) => writeln!(out, "{number} refresh"),
-        Verb::Merge(_) => writeln!(out, "{number} merge"),
-        Verb::Drop(_) => writeln!(out, "{number} drop"),
-        Verb::Pause(job) => writeln!(out, "{number} pause {job}"),
-        Verb::Resume(job) => writeln!(out, "{number} resume {job}"),
-        Verb::Discard(job) => writeln!(out, "{number} discard {job}"),
-        Verb::AwaitJob(job) => writeln!(out, "{number} await {job}"),
-        Verb::AwaitJobs => writeln!(out, "{number} await jobs"),
-        Verb::AwaitQueries => writeln!(out, "{number} await queries"),
-        Verb::Jobs => writeln!(out, "{number} jobs"),
-        Verb::Segments => writeln!(out, "{number} segments"),
-        Verb::Query(session, _) => writeln!(out, "{number} query {session}"),
+// The words of a command.
+fn verb_words(verb: &Verb) -> &'static str {
+    match verb {
+        Verb::Descriptor(_) => "descriptor",
+        Verb::Load(_, _) => "load",
+        Verb::Build(_) => "build",
+        Verb::Refresh(_) => "refresh",
+        Verb::Merge(_) => "merge",
+        Verb::Drop(_) => "drop",
+        Verb::Pause(_) => "pause",
+        Verb::Resume(_) => "resume",
+        Verb::Discard(_) => "discard",
+        Verb::AwaitJob(_) => "await",
+        Verb::AwaitJobs => "await jobs",
+        Verb::AwaitQueries => "await queries",
+        Verb::Jobs => "jobs",
+        Verb::Segments => "segments",
+        Verb::Query(_, _) => "query",
     }
+}
+
+// Writes the path of a command, its job or the number of its session, where it has one.
+fn put_argument<W: Write>(verb: &Verb, out: &mut W) -> io::Result<()> {
+    match verb {
+        Verb::Descriptor(path) | Verb::Load(_, path) => write!(out, " {}", path.as_str()),
+        Verb::Pause(job) | Verb::Resume(job) | Verb::Discard(job) | Verb::AwaitJob(job) => {
+            write!(out, " {job}")
+        }
+        Verb::Query(session, _) => write!(out, " {session}"),
+        _ => Ok(()),
+    }
+}
+
+// Writes the number of a line, and its command.
+fn put_line<W: Write>(line: &Line, out: &mut W) -> io::Result<()> {
+    write!(out, "{} {}", line.number, verb_words(&line.verb))?;
+    put_argument(&line.verb, out)?;
+    out.write_all(b"\n")
 }
 
 /// Writes how many commands a script has, or the number of its bad line.
@@ -44,12 +62,20 @@ pub(crate) fn answer_script<W: Write>(alloc: Global, text: &str, out: &mut W) ->
     put_count(&read_fixed_script(alloc, bytes.as_slice()), out)
 }
 
-// A script with the text below the descriptor's line, so often.
-fn repeated(alloc: Global, text: &[u8], times: u32) -> Result<Vec<u8>, AllocError> {
-    let mut script = Vec::from_slice(alloc, b"descriptor fixed\n")?;
+// Adds a text so often.
+fn add_repeated(script: &mut Vec<u8>, text: &[u8], times: u32) -> Result<(), AllocError> {
     for _ in 0..times {
         script.extend_from_slice(text)?;
     }
+    Ok(())
+}
+
+// A script with the text below the descriptor's line, so often.
+fn script_of(alloc: Global, words: &mut Words<'_>) -> io::Result<Vec<u8>> {
+    let times = words.number()?;
+    let text = unescaped(alloc, words.rest())?;
+    let mut script = Vec::from_slice(alloc, b"descriptor fixed\n")?;
+    add_repeated(&mut script, text.as_slice(), times)?;
     Ok(script)
 }
 
@@ -59,9 +85,7 @@ pub(crate) fn answer_times<W: Write>(
     mut words: Words<'_>,
     out: &mut W,
 ) -> io::Result<()> {
-    let times = words.number()?;
-    let text = unescaped(alloc, words.rest())?;
-    let bytes = repeated(alloc, text.as_slice(), times)?;
+    let bytes = script_of(alloc, &mut words)?;
     put_count(&read_fixed_script(alloc, bytes.as_slice()), out)
 }
 
