@@ -11,7 +11,7 @@
 //!   how many values its key has, and its aggregates.
 //!
 //! A term is the name of a column, or `#` and the number of an aggregate from 0; a key of the order is a term behind `rising:` or
-//! `falling:`. An aggregate is `count`, or `sum:`, `min:`, `max:`, `distinct:` or `average:` and a column. A condition is in postfix
+//! `falling:`. An aggregate is `count`, or `known:`, `sum:`, `min:`, `max:`, `distinct:` or `average:` and a column. A condition is in postfix
 //! form: a test, or one or two conditions and then `not`, `and` or `or`. A test is `null:TERM`, `any:TERM:LITERAL:LITERAL:..`, or
 //! `eq`, `ne`, `lt`, `le`, `gt` or `ge` in `eq:TERM:LITERAL`. A literal is a number in units of 1/10000, or else a text.
 #![tactic(auto)]

@@ -58,6 +58,7 @@ pub(crate) fn term_of(word: &str) -> io::Result<Term> {
 // The kind of an aggregate of a column.
 fn kind_of(word: &str) -> io::Result<AggKind> {
     match word {
+        "known" => Ok(AggKind::Known),
         "sum" => Ok(AggKind::Sum),
         "min" => Ok(AggKind::Min),
         "max" => Ok(AggKind::Max),

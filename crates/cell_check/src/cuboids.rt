@@ -242,8 +242,8 @@ fn put_way<W: Write>(
     write!(out, " {way} {word}")
 }
 
-// Says it of the cuboids that are made from the base cuboid.
-fn put_from_base<R: Threads + Sync, W: Write>(
+// Says it of the cuboids on all sets as one layer.
+fn put_layer<R: Threads + Sync, W: Write>(
     rt: &R,
     alloc: Global,
     plain: &PlainCuboids,
@@ -254,9 +254,20 @@ fn put_from_base<R: Threads + Sync, W: Write>(
     requires { 0 < pieces }
 {
     let tables = layer_of(rt, alloc, bases, pieces)?;
-    put_way(plain, "layer", &numbers_of(alloc, &tables)?, out)?;
+    let numbers = numbers_of(alloc, tables.as_slice())?;
+    put_way(plain, "layer", numbers.as_slice(), out)
+}
+
+// Says it of the cuboids that are regrouped one by one.
+fn put_regroupings<W: Write>(
+    alloc: Global,
+    plain: &PlainCuboids,
+    bases: &[CellTable],
+    out: &mut W,
+) -> io::Result<()> {
     for base in bases {
-        put_way(plain, "regrouped", &numbers_regrouped(alloc, base)?, out)?;
+        let numbers = numbers_regrouped(alloc, base)?;
+        put_way(plain, "regrouped", numbers.as_slice(), out)?;
     }
     Ok(())
 }
@@ -277,6 +288,33 @@ fn base_of<R: Threads + Sync>(
     base(rt, alloc, flat, dicts, &SEEDED, pieces)
 }
 
+// Says it of the cuboids that are made of the rows at once.
+fn put_from_rows<R: Threads + Sync, W: Write>(
+    rt: &R,
+    alloc: Global,
+    plain: &PlainCuboids,
+    flat: &FlatRows,
+    dicts: &DictSet,
+    base: &CellTable,
+    pieces: u32,
+    out: &mut W,
+) -> io::Result<()>
+    requires pieces { 0 < pieces }
+    requires dims { length dicts.now ≡ 5 }
+    requires few { length flat.now ≤ 10000 }
+    requires base { IsBase SEEDED dicts.now flat.now base.now }
+{
+    let numbers = numbers_of_rows(rt, alloc, flat, dicts, base, pieces)?;
+    put_way(plain, "rows", numbers.as_slice(), out)
+}
+
+// A list of one item.
+fn alone<T: Drop>(alloc: Global, item: T) -> Result<Vec<T>, AllocError> {
+    let mut items = Vec::new(alloc);
+    items.push(item)?;
+    Ok(items)
+}
+
 // Says it of the cuboids in all three ways.
 fn put_ways<R: Threads + Sync, W: Write>(
     rt: &R,
@@ -293,11 +331,10 @@ fn put_ways<R: Threads + Sync, W: Write>(
         return Err(unknown_line());
     }
     let base = base_of(rt, alloc, flat, dicts, pieces)?;
-    let numbers = numbers_of_rows(rt, alloc, flat, dicts, &base, pieces)?;
-    put_way(plain, "rows", &numbers, out)?;
-    let mut bases = Vec::new(alloc);
-    bases.push(base)?;
-    put_from_base(rt, alloc, plain, &bases, pieces, out)
+    put_from_rows(rt, alloc, plain, flat, dicts, &base, pieces, out)?;
+    let bases = alone(alloc, base)?;
+    put_layer(rt, alloc, plain, bases.as_slice(), pieces, out)?;
+    put_regroupings(alloc, plain, bases.as_slice(), out)
 }
 
 /// Says whether the cuboids of the seeded rows have the numbers of the aggregates.

@@ -3,7 +3,7 @@
 ghost use Rattle.std.specs.Prelude.{◌≡◌, ◌≤◌, ◌<◌, ◌^◌, ◌∷◌, [], IfOk, length};
 ghost use Rattle.dim_dictionary.specs.Dictionaries.{merged_dictionary};
 
-use check_lines::unknown_line;
+use check_lines::{known, unknown_line};
 use cube_val::{ColType, Val, read_val};
 use dim_dictionary::{Dict, DictSet};
 use std::alloc::{AllocError, Global};
@@ -46,31 +46,39 @@ fn dict_of(alloc: Global, texts: &str) -> io::Result<Dict>
     dict_of_values(alloc, values.as_slice())
 }
 
-// Writes the number of a text, and how many values are less.
-fn put_place<W: Write>(alloc: Global, dict: &Dict, text: &str, out: &mut W) -> io::Result<()> {
-    let v = value_of(alloc, text)?;
-    match dict.id_of(&v) {
+// Writes the number of a value (`-` for none), and how many values are less.
+fn put_id<W: Write>(id: Option<u32>, less: u32, out: &mut W) -> io::Result<()> {
+    match id {
         Some(id) => write!(out, " {id}")?,
         None => out.write_all(b" -")?,
     }
-    write!(out, "/{}", dict.lower_bound(&v))
+    write!(out, "/{less}")
 }
 
-/// Writes the length of a dictionary, and the places of texts in it.
+// Writes the number of a text, and how many values are less.
+fn put_place<W: Write>(alloc: Global, dict: &Dict, text: &str, out: &mut W) -> io::Result<()> {
+    let v = value_of(alloc, text)?;
+    put_id(dict.id_of(&v), dict.lower_bound(&v), out)
+}
+
+// Writes the length of a dictionary, and the places of texts in it.
+fn put_places<W: Write>(alloc: Global, dict: &Dict, sought: &str, out: &mut W) -> io::Result<()> {
+    write!(out, "{}:", dict.len())?;
+    for text in sought.split(' ') {
+        put_place(alloc, dict, text, out)?;
+    }
+    out.write_all(b"\n")
+}
+
+/// Writes the length of the dictionary of texts, and the places of other texts in it.
 pub(crate) fn answer_dictionary<W: Write>(
     alloc: Global,
     texts: &str,
     out: &mut W,
 ) -> io::Result<()> {
-    let Some((texts, sought)) = texts.split_once(" ? ") else {
-        return Err(unknown_line());
-    };
+    let (texts, sought) = known(texts.split_once(" ? "))?;
     let dict = dict_of(alloc, texts)?;
-    write!(out, "{}:", dict.len())?;
-    for text in sought.split(' ') {
-        put_place(alloc, &dict, text, out)?;
-    }
-    out.write_all(b"\n")
+    put_places(alloc, &dict, sought, out)
 }
 
 // Two dictionaries in a list.
@@ -104,14 +112,20 @@ fn put_merged<W: Write>(alloc: Global, parts: &[Dict], out: &mut W) -> io::Resul
     Ok(())
 }
 
-/// Writes what a merge of two dictionaries gives, and how many dictionaries the set of both has.
-pub(crate) fn answer_merge<W: Write>(alloc: Global, texts: &str, out: &mut W) -> io::Result<()> {
-    let Some((first_texts, second_texts)) = texts.split_once(" | ") else {
-        return Err(unknown_line());
-    };
+// The dictionaries of two texts.
+fn both(alloc: Global, texts: &str) -> io::Result<Vec<Dict>>
+    ensures { IfOk result (λ dicts. length (merged_dictionary dicts.items) < 2 ^ 32) }
+{
+    let (first_texts, second_texts) = known(texts.split_once(" | "))?;
     let first = dict_of(alloc, first_texts)?;
     let second = dict_of(alloc, second_texts)?;
     let parts = two(alloc, first, second)?;
+    Ok(parts)
+}
+
+/// Writes what a merge of two dictionaries gives, and how many dictionaries the set of both has.
+pub(crate) fn answer_merge<W: Write>(alloc: Global, texts: &str, out: &mut W) -> io::Result<()> {
+    let parts = both(alloc, texts)?;
     put_merged(alloc, &parts, out)?;
     let set = DictSet::new(parts);
     writeln!(out, "; a set of {}", set.len())

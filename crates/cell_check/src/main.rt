@@ -11,10 +11,14 @@
 //!   there are, and of each text behind the mark its number (`-` for none) and how many values are less.
 //! - `merge TEXT .. | TEXT ..` merges the dictionaries of the texts before and behind the bar. It writes how many values there are, and
 //!   of each part the new numbers of its values.
+//! - `select ROWS TEST ..` picks rows of a table of so many, whose keys are the number of the row and what is left of it by 7 and by 3. A
+//!   TEST is `COLUMN:FROM-TO,FROM-TO,..`, with spans of numbers of at least FROM and below TO. It writes how many rows are picked, their
+//!   places as runs, each from its first place to that behind its last, and whether a look at each row finds the same keys and cells.
 //! - `sales PIECES` makes the base cuboid of three sales in so many pieces, and from it that by regions. It writes the keys and cells of
 //!   both, row by row, in numbers; of a COUNT_DISTINCT how many ids there are.
 //! - `plain ROWS` makes so many seeded rows of four dimensions and aggregates them by the definition on each set of the dimensions. It writes
-//!   how many numbers the keys and values have. `cuboids PIECES` says whether the cuboids of these rows on the same sets have the same
+//!   how many numbers the keys and values have. `holes ROWS` does so with rows of which a third of the prices and of the sellers are null.
+//!   `cuboids PIECES` says whether the cuboids of these rows on the same sets have the same
 //!   numbers: as a layer of the base cuboid, regrouped from it one by one, and made of the rows at once.
 #![tactic(auto)]
 
@@ -24,6 +28,7 @@ mod measures;
 mod numbers;
 mod plain;
 mod sales;
+mod selects;
 mod table;
 
 use crate::cuboids::answer_cuboids;
@@ -31,8 +36,9 @@ use crate::dictionaries::{answer_dictionary, answer_merge};
 use crate::measures::{answer_ids, answer_max, answer_min};
 use crate::plain::PlainCuboids;
 use crate::sales::answer_sales;
+use crate::selects::answer_select;
 use crate::table::answer_row;
-use check_lines::{Words, unknown_line};
+use check_lines::{Words, next_case, unknown_line};
 use std::alloc::Global;
 use std::io;
 use std::io::{BufRead, BufReader, BufWriter, Write};
@@ -50,8 +56,10 @@ fn answer_layers<R: Threads + Sync, W: Write>(
 ) -> io::Result<()> {
     let mut words = words;
     match words.next()? {
+        "select" => answer_select(rt, alloc, words, out),
         "sales" => answer_sales(rt, alloc, words, out),
-        "plain" => plain.answer(alloc, words, out),
+        "plain" => plain.answer(alloc, words, false, out),
+        "holes" => plain.answer(alloc, words, true, out),
         "cuboids" => answer_cuboids(rt, alloc, plain, words, out),
         _ => Err(unknown_line()),
     }
@@ -77,40 +85,32 @@ fn answer_word<R: Threads + Sync, W: Write>(
     }
 }
 
-// The line without its line feed.
-fn text_of(line: &[u8]) -> &[u8] {
-    match line {
-        [text @ .., b'\n'] => text,
-        _ => line,
-    }
-}
-
-// Answers a line; an empty line and one that begins with `# ` are written as they are.
-fn answer_line<R: Threads + Sync, W: Write>(
+// Answers each line.
+fn answer_each<R: Threads + Sync, L: BufRead, W: Write>(
     rt: &R,
     alloc: Global,
     plain: &mut PlainCuboids,
-    text: &[u8],
+    lines: &mut L,
     out: &mut W,
 ) -> io::Result<()> {
-    if text.is_empty() || text.starts_with(b"# ") {
-        out.write_all(text)?;
-        return out.write_all(b"\n");
+    for _ in 0..u64::MAX {
+        let Some(line) = next_case(alloc, lines, out)? else {
+            break;
+        };
+        answer_word(rt, alloc, plain, Words::new(line.as_slice())?, out)?;
     }
-    answer_word(rt, alloc, plain, Words::new(text)?, out)
+    out.flush()
 }
 
 fn main(rt: HostRuntime) -> io::Result<()> {
     let alloc = rt.alloc();
     let mut lines = BufReader::new(alloc, rt.reader())?;
     let mut out = BufWriter::new(alloc, io::writer(&rt))?;
-    let mut plain = PlainCuboids::new(alloc);
-    for _ in 0..u64::MAX {
-        let mut line = Vec::new(alloc);
-        if lines.read_until(b'\n', &mut line)? == 0 {
-            break;
-        }
-        answer_line(&rt, alloc, &mut plain, text_of(line.as_slice()), &mut out)?;
-    }
-    out.flush()
+    answer_each(
+        &rt,
+        alloc,
+        &mut PlainCuboids::new(alloc),
+        &mut lines,
+        &mut out,
+    )
 }

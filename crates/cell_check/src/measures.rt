@@ -2,7 +2,7 @@
 
 ghost use Rattle.std.specs.Prelude.{◌≡◌, IfOk};
 
-use check_lines::{Words, unknown_line};
+use check_lines::{Words, known, parsed, unknown_line};
 use measure_laws::{IdSet, Max, Measure, Min};
 use std::alloc::{AllocError, Global};
 use std::io;
@@ -18,34 +18,14 @@ enum Change {
     Merge(u64, i64),
 }
 
-// An item.
-fn item_of(word: &str) -> io::Result<i64> {
-    match word.parse::<i64>() {
-        Ok(item) => Ok(item),
-        Err(_) => Err(unknown_line()),
-    }
-}
-
-// The number of items of an extreme.
-fn items_of(word: &str) -> io::Result<u64> {
-    match word.parse::<u64>() {
-        Ok(items) => Ok(items),
-        Err(_) => Err(unknown_line()),
-    }
-}
-
 // What a word says.
 fn change_of(word: &str) -> io::Result<Change> {
-    let Some((name, rest)) = word.split_once(':') else {
-        return Err(unknown_line());
-    };
+    let (name, rest) = known(word.split_once(':'))?;
     if name == "add" {
-        return Ok(Change::Add(item_of(rest)?));
+        return Ok(Change::Add(parsed(rest)?));
     }
-    let Some((items, value)) = rest.split_once(':') else {
-        return Err(unknown_line());
-    };
-    Ok(Change::Merge(items_of(items)?, item_of(value)?))
+    let (items, value) = known(rest.split_once(':'))?;
+    Ok(Change::Merge(parsed(items)?, parsed(value)?))
 }
 
 // Writes an extreme behind a space.
@@ -90,14 +70,28 @@ fn change_max(greatest: &mut Max, change: Change) -> io::Result<()> {
     Ok(())
 }
 
+// Changes the least item by each word, and writes it each time.
+fn put_each_min<W: Write>(least: &mut Min, words: &str, out: &mut W) -> io::Result<()> {
+    for word in words.split(' ') {
+        change_min(least, change_of(word)?)?;
+        put_extreme(out, least.value())?;
+    }
+    out.write_all(b"\n")
+}
+
 /// Writes the least item after each word.
 pub(crate) fn answer_min<W: Write>(alloc: Global, words: Words<'_>, out: &mut W) -> io::Result<()> {
     let mut least = Min::zero(alloc);
     out.write_all(b"min")?;
     put_extreme(out, least.value())?;
-    for word in words.rest().split(' ') {
-        change_min(&mut least, change_of(word)?)?;
-        put_extreme(out, least.value())?;
+    put_each_min(&mut least, words.rest(), out)
+}
+
+// Changes the greatest item by each word, and writes it each time.
+fn put_each_max<W: Write>(greatest: &mut Max, words: &str, out: &mut W) -> io::Result<()> {
+    for word in words.split(' ') {
+        change_max(greatest, change_of(word)?)?;
+        put_extreme(out, greatest.value())?;
     }
     out.write_all(b"\n")
 }
@@ -107,11 +101,7 @@ pub(crate) fn answer_max<W: Write>(alloc: Global, words: Words<'_>, out: &mut W)
     let mut greatest = Max::zero(alloc);
     out.write_all(b"max")?;
     put_extreme(out, greatest.value())?;
-    for word in words.rest().split(' ') {
-        change_max(&mut greatest, change_of(word)?)?;
-        put_extreme(out, greatest.value())?;
-    }
-    out.write_all(b"\n")
+    put_each_max(&mut greatest, words.rest(), out)
 }
 
 // The set of three ids of five items.
@@ -123,9 +113,7 @@ fn five_items(alloc: Global) -> Result<IdSet, AllocError>
 
 // Adds an id.
 fn add_id(set: &mut IdSet, word: &str) -> io::Result<()> {
-    let Ok(id) = word.parse::<u32>() else {
-        return Err(unknown_line());
-    };
+    let id = parsed(word)?;
     if set.items() > MOST {
         return Err(unknown_line());
     }
@@ -143,16 +131,26 @@ fn merged(alloc: Global, set: &IdSet) -> io::Result<IdSet> {
     Ok(whole)
 }
 
-/// Writes the set of the ids and of five items more.
-pub(crate) fn answer_ids<W: Write>(alloc: Global, words: Words<'_>, out: &mut W) -> io::Result<()> {
-    let mut set = IdSet::zero(alloc);
-    for word in words.rest().split(' ') {
-        add_id(&mut set, word)?;
+// Adds ids.
+fn add_ids(set: &mut IdSet, words: &str) -> io::Result<()> {
+    for word in words.split(' ') {
+        add_id(set, word)?;
     }
-    let whole = merged(alloc, &set)?;
-    write!(out, "{}", whole.items())?;
-    for id in whole.ids() {
+    Ok(())
+}
+
+// Writes how many items a set is of, and its ids.
+fn put_set<W: Write>(set: &IdSet, out: &mut W) -> io::Result<()> {
+    write!(out, "{}", set.items())?;
+    for id in set.ids() {
         write!(out, " {id}")?;
     }
     out.write_all(b"\n")
+}
+
+/// Writes the set of the ids and of five items more.
+pub(crate) fn answer_ids<W: Write>(alloc: Global, words: Words<'_>, out: &mut W) -> io::Result<()> {
+    let mut set = IdSet::zero(alloc);
+    add_ids(&mut set, words.rest())?;
+    put_set(&merged(alloc, &set)?, out)
 }

@@ -11,11 +11,17 @@ use std::alloc::{AllocError, Global};
 use std::io;
 use std::io::Write;
 
-/// COUNT_DISTINCT of the sellers, MAX, MIN and SUM of the prices, and COUNT, where the prices are column 4 and the sellers column 5.
-pub(crate) const SEEDED: [Agg; 5] = [
+/// COUNT_DISTINCT of the sellers, the known prices, MAX, MIN and SUM of them, the known sellers, and COUNT, where the prices are
+/// column 4 and the sellers column 5.
+pub(crate) const SEEDED: [Agg; 7] = [
     Agg {
         kind: AggKind::Distinct,
         column: Some(5),
+        ty: ColType::Int,
+    },
+    Agg {
+        kind: AggKind::Known,
+        column: Some(4),
         ty: ColType::Int,
     },
     Agg {
@@ -31,6 +37,11 @@ pub(crate) const SEEDED: [Agg; 5] = [
     Agg {
         kind: AggKind::Sum,
         column: Some(4),
+        ty: ColType::Int,
+    },
+    Agg {
+        kind: AggKind::Known,
+        column: Some(5),
         ty: ColType::Int,
     },
     Agg {
@@ -66,23 +77,34 @@ fn next(state: &mut u64, bound: u32) -> i64
     ((*state >> 33) % u64::from(bound)) as i64
 }
 
+// A number, or a hole in place of every third one.
+fn with_holes(state: &mut u64, holes: bool, number: i64) -> Val {
+    if holes && next(state, 3) == 0 {
+        Val::Null
+    } else {
+        Val::Int(number)
+    }
+}
+
 // A row of four dimensions, a price and a seller.
-fn seeded_row(alloc: Global, state: &mut u64) -> Result<Row, AllocError> {
+fn seeded_row(alloc: Global, state: &mut u64, holes: bool) -> Result<Row, AllocError> {
     let mut row = Row::new(alloc);
     for values in VALUES {
         row.push(Val::Int(next(state, values.max(1))))?;
     }
-    row.push(Val::Int(next(state, 2000).wrapping_sub(1000)))?;
-    row.push(Val::Int(next(state, 50)))?;
+    let price = next(state, 2000).wrapping_sub(1000);
+    row.push(with_holes(state, holes, price))?;
+    let seller = next(state, 50);
+    row.push(with_holes(state, holes, seller))?;
     Ok(row)
 }
 
 // So many rows.
-fn seeded(alloc: Global, count: u32) -> Result<FlatRows, AllocError> {
+fn seeded(alloc: Global, count: u32, holes: bool) -> Result<FlatRows, AllocError> {
     let mut flat = FlatRows::new(alloc);
     let mut state = 7;
     for _ in 0..count {
-        let row = seeded_row(alloc, &mut state)?;
+        let row = seeded_row(alloc, &mut state, holes)?;
         flat.push(row)?;
     }
     Ok(flat)
@@ -127,15 +149,17 @@ impl PlainCuboids {
         &self.rows
     }
 
-    /// Makes so many rows, and writes how many numbers their aggregates have.
+    /// Makes so many rows, where holes are asked for with a third of the prices and of the sellers null, and writes how many
+    /// numbers their aggregates have.
     pub(crate) fn answer<W: Write>(
         &mut self,
         alloc: Global,
         words: Words<'_>,
+        holes: bool,
         out: &mut W,
     ) -> io::Result<()> {
         let mut words = words;
-        self.rows = seeded(alloc, words.number()?)?;
+        self.rows = seeded(alloc, words.number()?, holes)?;
         self.numbers = numbers_of(alloc, &self.rows)?;
         writeln!(out, "{}", self.numbers.len())
     }

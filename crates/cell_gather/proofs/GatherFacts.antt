@@ -13,7 +13,7 @@ use Rattle.cell_store.specs.Cells.{key_cmp}
 use Rattle.cell_store.specs.declared.cell.Cell.{Cell}
 use Rattle.cell_gather.specs.Gathers.{RowMeasure, aggregated, cells_of, forms_of, gathered}
 use Rattle.cell_gather.specs.Merges.{merged_cells, no_cells}
-use Rattle.cell_gather.proofs.MergeFacts.{Values, measure_merged, measure_of, merged_all-image, row_laws, shown, shown-merges, shown-nones, shown-values, values-none}
+use Rattle.cell_gather.proofs.MergeFacts.{Values, measure_merged, merged_all-image, row_laws, rows_measure, shown, shown-merges, shown-nones, shown-values, values-none}
 
 pub key_exact : IsExact key_cmp
 key_exact x y e = exact_bytes x y e
@@ -74,18 +74,18 @@ module _ {R : Type 0} (ms : List (RowMeasure R)) where
   image c = (c.0, h c.1)
 
   -- the aggregate of rows, as cells, and as the values of one measure
-  pub as_cells : (key : R → List ℕ) (rows : List R) → map image (aggregate key_cmp key (λ row. row) (measure_of ms) rows) ≡ aggregated ms key rows
+  pub as_cells : (key : R → List ℕ) (rows : List R) → map image (aggregate key_cmp key (λ row. row) (rows_measure ms) rows) ≡ aggregated ms key rows
   as_cells key rows =
       let keys = distinct key_cmp (map key rows) in
-      map-map (λ k. (k, measure_of ms (values_at key_cmp key (λ row. row) rows k))) image keys
+      map-map (λ k. (k, rows_measure ms (values_at key_cmp key (λ row. row) rows k))) image keys
       ∙ (λ i. map (λ k. (k, shown-values ms (values_at key_cmp key (λ row. row) rows k) i)) keys)
 
   pub law : (key : R → List ℕ) (part : List ℕ → List ℕ) (lists : List (List R))
       → gathered (forms_of ms) part (flat_map (aggregated ms key) lists) ≡ aggregated ms (λ row. part (key row)) (flat_map (λ rows. rows) lists)
   law key part lists =
-      let at_none : h (measure_of ms []) ≡ no_cells (forms_of ms) = ap (shown (forms_of ms)) (values-none ms) ∙ shown-nones (forms_of ms) in
-      ap (gathered (forms_of ms) part) ((λ i. flat_map (λ rows. sym (as_cells key rows) i) lists) ∙ flat_map-map image (aggregate key_cmp key (λ row. row) (measure_of ms)) lists)
-      ∙ gather-image key_cmp part h (measure_of ms []) (measure_merged ms) (no_cells (forms_of ms)) merged_cells at_none (λ a b. shown-merges (forms_of ms) a.1 b.1) (flat_map (aggregate key_cmp key (λ row. row) (measure_of ms)) lists)
+      let at_none : h (rows_measure ms []) ≡ no_cells (forms_of ms) = ap (shown (forms_of ms)) (values-none ms) ∙ shown-nones (forms_of ms) in
+      ap (gathered (forms_of ms) part) ((λ i. flat_map (λ rows. sym (as_cells key rows) i) lists) ∙ flat_map-map image (aggregate key_cmp key (λ row. row) (rows_measure ms)) lists)
+      ∙ gather-image key_cmp part h (rows_measure ms []) (measure_merged ms) (no_cells (forms_of ms)) merged_cells at_none (λ a b. shown-merges (forms_of ms) a.1 b.1) (flat_map (aggregate key_cmp key (λ row. row) (rows_measure ms)) lists)
       ∙ ap (map image) (gather_aggregates nat_list_cmp_total key_exact nat_list_cmp_total key_exact (row_laws ms) part key (λ row. row) lists)
       ∙ as_cells (λ row. part (key row)) (flat_map (λ rows. rows) lists)
 

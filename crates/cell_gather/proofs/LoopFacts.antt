@@ -14,10 +14,10 @@ use Rattle.std.proofs.lemmas.List.Sums.{sum_by-append, sum_by-cons, sum_by-take-
 use Rattle.measure_laws.specs.declared.measure.MeasureForm.{MeasureForm}
 use Rattle.aggregation.specs.Groups.{merged_all}
 use Rattle.aggregation.proofs.GroupFacts.{rises-grouped}
-use Rattle.cell_store.specs.Cells.{form_of, items_at, items_of, key_cmp}
+use Rattle.cell_store.specs.Cells.{form_of, items_at, items_of, key_cmp, merged_cell}
 use Rattle.cell_store.specs.declared.cell.Cell.{Cell}
 use Rattle.cell_gather.specs.Gathers.{gathered}
-use Rattle.cell_gather.specs.Merges.{merged_cell, merged_cells, no_cells}
+use Rattle.cell_gather.specs.Merges.{merged_cells, no_cells}
 use Rattle.cell_gather.specs.Runs.{has_key}
 use Rattle.cell_gather.proofs.GatherFacts.{key_exact}
 use Rattle.cell_gather.proofs.MergeFacts.{forms-merged, items-merged, merged_cells-push}

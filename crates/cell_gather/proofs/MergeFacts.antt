@@ -1,23 +1,18 @@
 -- Cells of given forms as one measure: a product of measures, whose laws have no premise, and what it tells of lists of cells.
 use Rattle.std.proofs.Common.{◌≡◌, ◌+◌, ◌∙◌, ℕ, zero, suc, List, [], ◌∷◌, ◌++◌, map, length, refl, sym, ap, subst, arith, length-append, zero-add}
-use Rattle.std.specs.Prelude.{ℤ, sum_by}
-use Rattle.std.specs.List.{AllByRecursion}
+use Rattle.std.specs.Prelude.{sum_by}
+use Rattle.std.specs.List.{AllByRecursion, filter_map}
 use Rattle.std.proofs.lemmas.List.{map-append}
+use Rattle.std.proofs.lemmas.List.Elements.{filter_map-append}
 use Rattle.std.proofs.lemmas.List.Sums.{sum_by-cons}
 use Rattle.measure_laws.specs.declared.measure.MeasureForm.{MeasureForm}
-use Rattle.measure_laws.specs.declared.measure.MeasureForm.TheVariants as form
-use Rattle.measure_laws.specs.Extremes.{Extreme, greatest_of, least_of, merged_greatest, merged_least}
-use Rattle.measure_laws.specs.ExtremeFacts.{greatest_laws, least_laws}
-use Rattle.measure_laws.specs.Ids.{Ids, ids_of, merged_ids}
-use Rattle.measure_laws.specs.IdFacts.{ids_laws}
-use Rattle.measure_laws.specs.MeasureFacts.{count_laws, sum_laws}
-use Rattle.measure_laws.specs.Measures.{MeasureLaws, Summed, merged_sum, summed}
+use Rattle.measure_laws.specs.Measures.{MeasureLaws}
 use Rattle.aggregation.specs.Groups.{merged_all}
-use Rattle.cell_store.specs.Cells.{form_of, items_at, items_of}
+use Rattle.cell_store.specs.Cells.{form_of, items_at}
 use Rattle.cell_store.specs.declared.cell.Cell.{Cell}
-use Rattle.cell_store.specs.declared.cell.Cell.TheVariants.{Count, Sum, Min, Max, Distinct}
-use Rattle.cell_gather.specs.Gathers.{RowMeasure, cell_of_form, cells_of, forms_of}
-use Rattle.cell_gather.specs.Merges.{merged_cell, merged_cells, no_cell, no_cells}
+use Rattle.cell_store.proofs.KindFacts.{measure_of, value_of_cell}
+use Rattle.cell_gather.specs.Gathers.{RowMeasure, cells_of, forms_of}
+use Rattle.cell_gather.specs.Merges.{merged_cells, no_cells}
 
 -- ---- merging, without the items
 
@@ -41,74 +36,19 @@ merged_all-image h none merge none' merge' z m (x ∷ xs) = m x (merged_all none
 -- ---- the value of a cell of a form
 
 abbrev pub Value : MeasureForm → Type 0
-Value form.Count = ℕ
-Value form.Sum = Summed
-Value form.Min = Extreme
-Value form.Max = Extreme
-Value form.Distinct = Ids
+Value f = (measure_of f).Value
 
 abbrev pub none : (f : MeasureForm) → Value f
-none form.Count = 0
-none form.Sum = summed []
-none form.Min = least_of []
-none form.Max = greatest_of []
-none form.Distinct = ids_of []
+none f = (measure_of f).of []
 
 abbrev pub merge : (f : MeasureForm) → Value f → Value f → Value f
-merge form.Count a b = a + b
-merge form.Sum a b = merged_sum a b
-merge form.Min a b = merged_least a b
-merge form.Max a b = merged_greatest a b
-merge form.Distinct a b = merged_ids a b
+merge f = (measure_of f).merge
 
 abbrev pub cell : (f : MeasureForm) → Value f → Cell
-cell form.Count v = Count v
-cell form.Sum v = Sum v
-cell form.Min v = Min v
-cell form.Max v = Max v
-cell form.Distinct v = Distinct v
+cell f = (measure_of f).cell
 
 monoid : (f : MeasureForm) → IsMonoid (none f) (merge f)
-monoid form.Count = from_laws count_laws
-monoid form.Sum = from_laws sum_laws
-monoid form.Min = from_laws least_laws
-monoid form.Max = from_laws greatest_laws
-monoid form.Distinct = from_laws ids_laws
-
-shown-none : (f : MeasureForm) → cell f (none f) ≡ no_cell f
-shown-none form.Count = refl
-shown-none form.Sum = refl
-shown-none form.Min = refl
-shown-none form.Max = refl
-shown-none form.Distinct = refl
-
-shown-merge : (f : MeasureForm) (a b : Value f) → cell f (merge f a b) ≡ merged_cell (cell f a) (cell f b)
-shown-merge form.Count a b = refl
-shown-merge form.Sum a b = refl
-shown-merge form.Min a b = refl
-shown-merge form.Max a b = refl
-shown-merge form.Distinct a b = refl
-
-form-cell : (f : MeasureForm) (v : Value f) → form_of (cell f v) ≡ f
-form-cell form.Count v = refl
-form-cell form.Sum v = refl
-form-cell form.Min v = refl
-form-cell form.Max v = refl
-form-cell form.Distinct v = refl
-
-items-none : (f : MeasureForm) → items_of (cell f (none f)) ≡ 0
-items-none form.Count = refl
-items-none form.Sum = refl
-items-none form.Min = refl
-items-none form.Max = refl
-items-none form.Distinct = refl
-
-items-merge : (f : MeasureForm) (a b : Value f) → items_of (cell f (merge f a b)) ≡ items_of (cell f a) + items_of (cell f b)
-items-merge form.Count a b = refl
-items-merge form.Sum a b = refl
-items-merge form.Min a b = refl
-items-merge form.Max a b = refl
-items-merge form.Distinct a b = refl
+monoid f = from_laws (measure_of f).laws
 
 -- ---- the values of cells of given forms
 
@@ -141,24 +81,24 @@ monoids (f ∷ fs) =
 
 pub shown-nones : (fs : List MeasureForm) → shown fs (nones fs) ≡ no_cells fs
 shown-nones [] = refl
-shown-nones (f ∷ fs) = let h = shown-none f in let t = shown-nones fs in λ i. h i ∷ t i
+shown-nones (f ∷ fs) = let h = (measure_of f).cell-of [] in let t = shown-nones fs in λ i. h i ∷ t i
 
 pub shown-merges : (fs : List MeasureForm) (a b : Values fs) → shown fs (merges fs a b) ≡ merged_cells (shown fs a) (shown fs b)
 shown-merges [] a b = refl
-shown-merges (f ∷ fs) a b = let h = shown-merge f a.0 b.0 in let t = shown-merges fs a.1 b.1 in λ i. h i ∷ t i
+shown-merges (f ∷ fs) a b = let h = (measure_of f).cell-merge a.0 b.0 in let t = shown-merges fs a.1 b.1 in λ i. h i ∷ t i
 
 forms-shown : (fs : List MeasureForm) (v : Values fs) → map form_of (shown fs v) ≡ fs
 forms-shown [] v = refl
-forms-shown (f ∷ fs) v = let h = form-cell f v.0 in let t = forms-shown fs v.1 in λ i. h i ∷ t i
+forms-shown (f ∷ fs) v = let h = (measure_of f).form-cell v.0 in let t = forms-shown fs v.1 in λ i. h i ∷ t i
 
 items-nones : (fs : List MeasureForm) (k : ℕ) → items_at k (shown fs (nones fs)) ≡ 0
 items-nones [] k = refl
-items-nones (f ∷ fs) zero = items-none f
+items-nones (f ∷ fs) zero = (measure_of f).laws.counted []
 items-nones (f ∷ fs) (suc k) = items-nones fs k
 
 items-merges : (fs : List MeasureForm) (k : ℕ) (a b : Values fs) → items_at k (shown fs (merges fs a b)) ≡ items_at k (shown fs a) + items_at k (shown fs b)
 items-merges [] k a b = refl
-items-merges (f ∷ fs) zero a b = items-merge f a.0 b.0
+items-merges (f ∷ fs) zero a b = (measure_of f).laws.counts_add a.0 b.0
 items-merges (f ∷ fs) (suc k) a b = items-merges fs k a.1 b.1
 
 merged_values : (fs : List MeasureForm) (vs : List (Values fs)) → shown fs (merged_all (nones fs) (merges fs) vs) ≡ merged_all (no_cells fs) merged_cells (map (shown fs) vs)
@@ -178,16 +118,9 @@ HasForms fs cells = map form_of cells ≡ fs
 abbrev Shows : List MeasureForm → List Cell → Type 0
 Shows fs cells = (v : Values fs) × (shown fs v ≡ cells)
 
-one_shown : (c : Cell) → (v : Value (form_of c)) × (cell (form_of c) v ≡ c)
-one_shown (Count v) = (v, refl)
-one_shown (Sum v) = (v, refl)
-one_shown (Min v) = (v, refl)
-one_shown (Max v) = (v, refl)
-one_shown (Distinct v) = (v, refl)
-
 own_forms : (cells : List Cell) → Shows (map form_of cells) cells
 own_forms [] = (tt, refl)
-own_forms (c ∷ cells) = let h = one_shown c in let t = own_forms cells in ((h.0, t.0), λ i. h.1 i ∷ t.1 i)
+own_forms (c ∷ cells) = let h = value_of_cell c in let t = own_forms cells in ((h.0, t.0), λ i. h.1 i ∷ t.1 i)
 
 lift : (fs : List MeasureForm) (cells : List Cell) → HasForms fs cells → Shows fs cells
 lift fs cells e = subst (λ (gs : List MeasureForm). Shows gs cells) e (own_forms cells)
@@ -231,58 +164,38 @@ add_comm : (a b : ℕ) → a + b ≡ b + a
 add_comm a b = omega arith
 
 module _ {R : Type 0} where
-  abbrev pub value_of : (f : MeasureForm) → (R → ℤ) → (R → ℕ) → List R → Value f
-  value_of form.Count number id rows = length rows
-  value_of form.Sum number id rows = summed (map number rows)
-  value_of form.Min number id rows = least_of (map number rows)
-  value_of form.Max number id rows = greatest_of (map number rows)
-  value_of form.Distinct number id rows = ids_of (map id rows)
+  abbrev pub value_of : (m : RowMeasure R) → List R → Value m.form
+  value_of m rows = (measure_of m.form).of (filter_map m.item rows)
 
   abbrev pub values_of : (ms : List (RowMeasure R)) → List R → Values (forms_of ms)
   values_of [] rows = tt
-  values_of (m ∷ ms) rows = (value_of m.form m.number m.id rows, values_of ms rows)
-
-  value-none : (f : MeasureForm) (number : R → ℤ) (id : R → ℕ) → value_of f number id [] ≡ none f
-  value-none form.Count number id = refl
-  value-none form.Sum number id = refl
-  value-none form.Min number id = refl
-  value-none form.Max number id = refl
-  value-none form.Distinct number id = refl
+  values_of (m ∷ ms) rows = (value_of m rows, values_of ms rows)
 
   pub values-none : (ms : List (RowMeasure R)) → values_of ms [] ≡ nones (forms_of ms)
   values-none [] = refl
-  values-none (m ∷ ms) = let h = value-none m.form m.number m.id in let t = values-none ms in λ i. (h i, t i)
+  values-none (m ∷ ms) = let t = values-none ms in λ i. (none m.form, t i)
 
-  value-joined : (f : MeasureForm) (number : R → ℤ) (id : R → ℕ) (xs ys : List R) → value_of f number id (xs ++ ys) ≡ merge f (value_of f number id xs) (value_of f number id ys)
-  value-joined form.Count number id xs ys = length-append xs ys
-  value-joined form.Sum number id xs ys = ap summed (map-append number xs ys) ∙ sum_laws.joined (map number xs) (map number ys)
-  value-joined form.Min number id xs ys = ap least_of (map-append number xs ys) ∙ least_laws.joined (map number xs) (map number ys)
-  value-joined form.Max number id xs ys = ap greatest_of (map-append number xs ys) ∙ greatest_laws.joined (map number xs) (map number ys)
-  value-joined form.Distinct number id xs ys = ap ids_of (map-append id xs ys) ∙ ids_laws.joined (map id xs) (map id ys)
+  value-joined : (m : RowMeasure R) (xs ys : List R) → value_of m (xs ++ ys) ≡ merge m.form (value_of m xs) (value_of m ys)
+  value-joined m xs ys =
+      let kind = measure_of m.form in
+      ap kind.of (filter_map-append m.item xs ys) ∙ kind.laws.joined (filter_map m.item xs) (filter_map m.item ys)
 
   values-joined : (ms : List (RowMeasure R)) (xs ys : List R) → values_of ms (xs ++ ys) ≡ merges (forms_of ms) (values_of ms xs) (values_of ms ys)
   values-joined [] xs ys = refl
-  values-joined (m ∷ ms) xs ys = let h = value-joined m.form m.number m.id xs ys in let t = values-joined ms xs ys in λ i. (h i, t i)
-
-  shown-value : (f : MeasureForm) (number : R → ℤ) (id : R → ℕ) (rows : List R) → cell f (value_of f number id rows) ≡ cell_of_form f number id rows
-  shown-value form.Count number id rows = refl
-  shown-value form.Sum number id rows = refl
-  shown-value form.Min number id rows = refl
-  shown-value form.Max number id rows = refl
-  shown-value form.Distinct number id rows = refl
+  values-joined (m ∷ ms) xs ys = let h = value-joined m xs ys in let t = values-joined ms xs ys in λ i. (h i, t i)
 
   pub shown-values : (ms : List (RowMeasure R)) (rows : List R) → shown (forms_of ms) (values_of ms rows) ≡ cells_of ms rows
   shown-values [] rows = refl
-  shown-values (m ∷ ms) rows = let h = shown-value m.form m.number m.id rows in let t = shown-values ms rows in λ i. h i ∷ t i
+  shown-values (m ∷ ms) rows = let h = (measure_of m.form).cell-of (filter_map m.item rows) in let t = shown-values ms rows in λ i. h i ∷ t i
 
   -- the values of rows with their number, as one measure
-  abbrev pub measure_of : (ms : List (RowMeasure R)) → List R → ℕ × Values (forms_of ms)
-  measure_of ms rows = (length rows, values_of ms rows)
+  abbrev pub rows_measure : (ms : List (RowMeasure R)) → List R → ℕ × Values (forms_of ms)
+  rows_measure ms rows = (length rows, values_of ms rows)
 
   abbrev pub measure_merged : (ms : List (RowMeasure R)) → ℕ × Values (forms_of ms) → ℕ × Values (forms_of ms) → ℕ × Values (forms_of ms)
   measure_merged ms a b = (a.0 + b.0, merges (forms_of ms) a.1 b.1)
 
-  pub row_laws : (ms : List (RowMeasure R)) → MeasureLaws (λ (c : ℕ × Values (forms_of ms)). c.0) (measure_of ms) (measure_merged ms)
+  pub row_laws : (ms : List (RowMeasure R)) → MeasureLaws (λ (c : ℕ × Values (forms_of ms)). c.0) (rows_measure ms) (measure_merged ms)
   row_laws ms =
       let m = monoids (forms_of ms) in
       record {

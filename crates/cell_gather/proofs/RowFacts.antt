@@ -1,41 +1,34 @@
 -- The cells of rows, and rows with the cells of themselves alone.
-use Rattle.std.proofs.Common.{◌≡◌, ◌≤◌, ℕ, zero, suc, List, [], ◌∷◌, get_or, map, length, refl, arith}
-use Rattle.std.specs.Prelude.{ℤ, sum_by}
-use Rattle.std.proofs.lemmas.List.{length-map}
+use Rattle.std.proofs.Common.{◌≡◌, ◌≤◌, ℕ, zero, suc, List, [], ◌∷◌, Some, None, get_or, map, length, refl, arith}
+use Rattle.std.specs.Prelude.{Option, sum_by}
+use Rattle.std.specs.List.{cons_option, filter_map}
 use Rattle.std.proofs.lemmas.List.Sums.{sum_by-cons}
 use Rattle.agg_group.specs.declared.mask.Mask.{Mask}
 use Rattle.agg_group.specs.Mask.{count_of}
-use Rattle.measure_laws.specs.declared.measure.MeasureForm.{MeasureForm}
-use Rattle.measure_laws.specs.declared.measure.MeasureForm.TheVariants as form
 use Rattle.measure_laws.specs.Measures.{most_items}
-use Rattle.cell_store.specs.Cells.{form_of, items_at, items_of}
-use Rattle.cell_gather.specs.Gathers.{RowMeasure, cell_of_form, cells_of, forms_of}
+use Rattle.cell_store.specs.Cells.{form_of, items_at}
+use Rattle.cell_store.proofs.KindFacts.{form-of, items-of}
+use Rattle.cell_gather.specs.Gathers.{RowMeasure, cells_of, forms_of}
 use Rattle.cell_gather.proofs.TableFacts.{IsToGather, Row, all_mapped, sum_mapped}
 
+pub length-filter_map : {X Y : Type 0} (h : X → Option Y) (xs : List X) → length (filter_map h xs) ≤ length xs
+length-filter_map h [] = omega arith
+length-filter_map {Y = Y} h (x ∷ xs) = by (h x) (length-filter_map h xs)
+  where
+    by : (o : Option Y) → length (filter_map h xs) ≤ length xs → length (cons_option o (filter_map h xs)) ≤ length (x ∷ xs)
+    by None more = omega arith
+    by (Some y) more = omega arith
+
 module _ {R : Type 0} where
-  form-cell : (f : MeasureForm) (number : R → ℤ) (id : R → ℕ) (rows : List R) → form_of (cell_of_form f number id rows) ≡ f
-  form-cell form.Count number id rows = refl
-  form-cell form.Sum number id rows = refl
-  form-cell form.Min number id rows = refl
-  form-cell form.Max number id rows = refl
-  form-cell form.Distinct number id rows = refl
-
-  items-cell : (f : MeasureForm) (number : R → ℤ) (id : R → ℕ) (rows : List R) → items_of (cell_of_form f number id rows) ≡ length rows
-  items-cell form.Count number id rows = refl
-  items-cell form.Sum number id rows = length-map rows number
-  items-cell form.Min number id rows = length-map rows number
-  items-cell form.Max number id rows = length-map rows number
-  items-cell form.Distinct number id rows = length-map rows id
-
   -- the cells of rows have the forms of the measures
   pub forms-cells : (ms : List (RowMeasure R)) (rows : List R) → map form_of (cells_of ms rows) ≡ forms_of ms
   forms-cells [] rows = refl
-  forms-cells (m ∷ ms) rows = let h = form-cell m.form m.number m.id rows in let t = forms-cells ms rows in λ i. h i ∷ t i
+  forms-cells (m ∷ ms) rows = let h = form-of m.form (filter_map m.item rows) in let t = forms-cells ms rows in λ i. h i ∷ t i
 
   -- and are of no more items than there are rows
   pub items-cells : (ms : List (RowMeasure R)) (k : ℕ) (rows : List R) → items_at k (cells_of ms rows) ≤ length rows
   items-cells [] k rows = omega arith
-  items-cells (m ∷ ms) zero rows = let h = items-cell m.form m.number m.id rows in omega arith
+  items-cells (m ∷ ms) zero rows = let h = items-of m.form (filter_map m.item rows) in let few = length-filter_map m.item rows in omega arith
   items-cells (m ∷ ms) (suc k) rows = items-cells ms k rows
 
   few_each : (f : R → ℕ) → ((r : R) → f r ≤ 1) → (rows : List R) → sum_by f rows ≤ length rows

@@ -1,32 +1,21 @@
 -- Rows of cells, of rows of any type and gathered from others.
-use Rattle.std.specs.Prelude.{ℕ, ℤ, List, length, map}
+use Rattle.std.specs.Prelude.{ℕ, List, Option, map}
+use Rattle.std.specs.List.{filter_map}
 use Rattle.measure_laws.specs.declared.measure.MeasureForm.{MeasureForm}
-use Rattle.measure_laws.specs.declared.measure.MeasureForm.TheVariants as form
-use Rattle.measure_laws.specs.Extremes.{greatest_of, least_of}
-use Rattle.measure_laws.specs.Ids.{ids_of}
-use Rattle.measure_laws.specs.Measures.{summed}
 use Rattle.aggregation.specs.Groups.{aggregate, gather}
-use Rattle.cell_store.specs.Cells.{key_cmp}
+use Rattle.cell_store.specs.Cells.{cell_of_items, key_cmp}
 use Rattle.cell_store.specs.declared.cell.Cell.{Cell}
-use Rattle.cell_store.specs.declared.cell.Cell.TheVariants.{Count, Sum, Min, Max, Distinct}
+use Rattle.cell_store.specs.declared.cell.RowItem.{RowItem}
 use Rattle.cell_gather.specs.Merges.{merged_cells, no_cells}
 
--- what a measure takes of a row: a number for a sum and an extreme, a dictionary number for a set of different values
+-- a measure of rows: what it takes of a row, if the row has anything for it
 pub record RowMeasure (R : Type 0) : Type 0 where
   pub form : MeasureForm
-  pub number : R → ℤ
-  pub id : R → ℕ
+  pub item : R → Option RowItem
 
-abbrev pub cell_of_form : {R : Type 0} → MeasureForm → (R → ℤ) → (R → ℕ) → List R → Cell
-cell_of_form form.Count number id rows = Count (length rows)
-cell_of_form form.Sum number id rows = Sum (summed (map number rows))
-cell_of_form form.Min number id rows = Min (least_of (map number rows))
-cell_of_form form.Max number id rows = Max (greatest_of (map number rows))
-cell_of_form form.Distinct number id rows = Distinct (ids_of (map id rows))
-
--- the cell of rows
+-- the cell of rows; those that have nothing for the measure are passed over
 abbrev pub cell_of : {R : Type 0} → RowMeasure R → List R → Cell
-cell_of measure rows = cell_of_form measure.form measure.number measure.id rows
+cell_of measure rows = cell_of_items measure.form (filter_map measure.item rows)
 
 -- the cells of rows, one of each measure
 abbrev pub cells_of : {R : Type 0} → List (RowMeasure R) → List R → List Cell

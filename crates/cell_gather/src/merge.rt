@@ -2,27 +2,14 @@
 
 ghost use Rattle.std.specs.Prelude.{◌≡◌, ◌≤◌, ◌+◌, ◌<◌, IfOk, OnOk, ℕ, All, length, map};
 ghost use Rattle.aggregation.specs.Groups.{merged_all};
-ghost use Rattle.cell_store.specs.Cells.{ItemsAreFew, form_of, items_at, items_of};
+ghost use Rattle.cell_store.specs.Cells.{ItemsAreFew, form_of, items_at};
 ghost use Rattle.measure_laws.specs.Measures.{most_items};
-ghost use Rattle.cell_gather.specs.Merges.{merged_cell, merged_cells, no_cell, no_cells};
+ghost use Rattle.cell_gather.specs.Merges.{merged_cells, no_cells};
 
 use crate::rows::KeyedCells;
 use cell_store::Cell;
-use measure_laws::{Count, IdSet, Max, Measure, MeasureForm, Min, Sum};
+use measure_laws::MeasureForm;
 use std::alloc::{AllocError, Global};
-
-/// The cell of no row.
-pub(crate) fn no_cell(alloc: Global, form: MeasureForm) -> Cell
-    ensures { result ≡ no_cell form }
-{
-    match form {
-        MeasureForm::Count => Cell::Count(Count::zero(alloc)),
-        MeasureForm::Sum => Cell::Sum(Sum::zero(alloc)),
-        MeasureForm::Min => Cell::Min(Min::zero(alloc)),
-        MeasureForm::Max => Cell::Max(Max::zero(alloc)),
-        MeasureForm::Distinct => Cell::Distinct(IdSet::zero(alloc)),
-    }
-}
 
 // The cells of no row.
 fn no_cells(alloc: Global, forms: &[MeasureForm]) -> Result<Vec<Cell>, AllocError>
@@ -30,38 +17,9 @@ fn no_cells(alloc: Global, forms: &[MeasureForm]) -> Result<Vec<Cell>, AllocErro
 {
     let mut cells = Vec::new(alloc);
     for form in forms {
-        cells.push(no_cell(alloc, *form))?;
+        cells.push(Cell::of_items(alloc, *form, &[])?)?;
     }
     Ok(cells)
-}
-
-/// Merges another cell into a cell of its form.
-pub(crate) fn merge_cell(cell: &mut Cell, other: &Cell) -> Result<(), AllocError>
-    requires { items_of cell.old + items_of other.now ≤ most_items }
-    ensures { OnOk result (cell.new ≡ merged_cell cell.old other.now) }
-{
-    match cell {
-        Cell::Count(count) => match other {
-            Cell::Count(more) => count.merge(more),
-            _ => Ok(()),
-        },
-        Cell::Sum(sum) => match other {
-            Cell::Sum(more) => sum.merge(more),
-            _ => Ok(()),
-        },
-        Cell::Min(least) => match other {
-            Cell::Min(more) => least.merge(more),
-            _ => Ok(()),
-        },
-        Cell::Max(greatest) => match other {
-            Cell::Max(more) => greatest.merge(more),
-            _ => Ok(()),
-        },
-        Cell::Distinct(set) => match other {
-            Cell::Distinct(more) => set.merge(more),
-            _ => Ok(()),
-        },
-    }
 }
 
 // Merges the cells of another row into the cells of a row.
@@ -71,7 +29,7 @@ fn merge_cells(cells: &mut [Cell], others: &[Cell]) -> Result<(), AllocError>
     ensures { OnOk result (cells.new ≡ merged_cells cells.old others.now) }
 {
     for (k, cell) in cells.iter_mut().enumerate() {
-        merge_cell(cell, &others[k])?;
+        cell.merge(&others[k])?;
     }
     Ok(())
 }

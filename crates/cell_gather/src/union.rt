@@ -2,11 +2,11 @@
 
 ghost use Rattle.std.specs.Prelude.{◌≡◌, ◌≤◌, ◌+◌, ◌<◌, IfOk, OnOk, ℕ, All, length, map};
 ghost use Rattle.aggregation.specs.Groups.{merged_all};
-ghost use Rattle.cell_store.specs.Cells.{ItemsAreFew, form_of, items_at, items_of};
+ghost use Rattle.cell_store.specs.Cells.{ItemsAreFew, form_of, items_at, items_of, merged_cell, no_cell};
 ghost use Rattle.measure_laws.specs.Measures.{most_items};
-ghost use Rattle.cell_gather.specs.Merges.{merged_cell, merged_cells, merged_so_far, no_cell, no_cells};
+ghost use Rattle.cell_gather.specs.Merges.{merged_cells, merged_so_far, no_cells};
 
-use crate::merge::{merge_cell, merged_in_turn, no_cell};
+use crate::merge::merged_in_turn;
 use crate::rows::KeyedCells;
 use cell_store::Cell;
 use measure_laws::{IdUnion, MeasureForm};
@@ -22,14 +22,12 @@ pub(crate) enum Merging {
 }
 
 // The merge of no cell.
-fn merge_of_none(alloc: Global, form: MeasureForm) -> Merging
-    ensures { merged_so_far result ≡ no_cell form }
+fn merge_of_none(alloc: Global, form: MeasureForm) -> Result<Merging, AllocError>
+    ensures { IfOk result (λ merge. merged_so_far merge ≡ no_cell form) }
 {
     match form {
-        MeasureForm::Distinct => Merging::Union(IdUnion::new(alloc)),
-        MeasureForm::Count | MeasureForm::Sum | MeasureForm::Min | MeasureForm::Max => {
-            Merging::Merged(no_cell(alloc, form))
-        }
+        MeasureForm::Distinct => Ok(Merging::Union(IdUnion::new(alloc))),
+        _ => Ok(Merging::Merged(Cell::of_items(alloc, form, &[])?)),
     }
 }
 
@@ -39,7 +37,7 @@ fn merges_of_none(alloc: Global, forms: &[MeasureForm]) -> Result<Vec<Merging>, 
 {
     let mut merges = Vec::new(alloc);
     for form in forms {
-        merges.push(merge_of_none(alloc, *form))?;
+        merges.push(merge_of_none(alloc, *form)?)?;
     }
     Ok(merges)
 }
@@ -50,7 +48,7 @@ fn take_in(merge: &mut Merging, other: &Cell) -> Result<(), AllocError>
     ensures { OnOk result (merged_so_far merge.new ≡ merged_cell (merged_so_far merge.old) other.now) }
 {
     match merge {
-        Merging::Merged(cell) => merge_cell(cell, other),
+        Merging::Merged(cell) => cell.merge(other),
         Merging::Union(union) => match other {
             Cell::Distinct(set) => union.merge(set),
             _ => Ok(()),

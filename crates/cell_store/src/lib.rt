@@ -13,6 +13,9 @@
 //! Contracts see a table as the list of its rows. In the code it is a column of numbers for each dimension and the cells
 //! of all rows one after another, since a query reads a few columns and not rows.
 //!
+//! What a cell of each form is of, how it looks and how it is merged is said here once (`cell_of_items`, `merged_cell`), of
+//! items that rows have for a measure: a row that has none for it is passed over by whoever makes the items.
+//!
 //! The modules: `cell`: a cell; `table`: a table of rows; `columns`: how a table keeps its rows; `select`: rows picked by
 //! tests of their keys; `lanes`: these tests at eight places at once; `steps`: the counter of rows that were read; `examples`: the definitions on a few cells.
 #![tactic(auto)]
@@ -25,7 +28,7 @@ mod select;
 mod steps;
 mod table;
 
-pub use cell::Cell;
+pub use cell::{Cell, RowItem};
 pub use examples::worked_examples;
 pub use select::{IdSpan, IdTest, Picked};
 pub use steps::Steps;

@@ -1,7 +1,7 @@
 -- The numbers of a group's dimensions, and its rules.
 use Rattle.std.proofs.Common.{◌≡◌, ℕ, ◌<◌, ◌≤◌, List, [], ◌∷◌, map, length, Option, Some, None, Bool, true, false, cond, refl, sym, arith}
 use Rattle.std.specs.Prelude.{nat_lt, unwrap_or, is_none, All, slice_index_or, bytes_eq}
-use Rattle.std.specs.List.{AllByRecursion, position, position_or_len}
+use Rattle.std.specs.List.{AllByRecursion, position_or_len}
 use Rattle.std.proofs.lemmas.Bool.{and_parts, ltb-true}
 use Rattle.std.proofs.lemmas.List.Elements.{All-from_recursion, All-map}
 use Rattle.smallvec.specs.SmallVec.{SmallVec}

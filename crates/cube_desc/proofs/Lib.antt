@@ -3,6 +3,7 @@ pub mod FlatRowFacts
 pub mod FormFacts
 pub mod GroupLemmas
 pub mod Judged
+pub mod KeptFacts
 pub mod Passed
 pub mod SeekFacts
 pub mod SoundFacts

@@ -1,5 +1,6 @@
 -- A cube's numbers are those of things that are there.
 use Rattle.std.proofs.Common.{◌≡◌, ◌<◌, ◌≤◌, inl, inr, ℕ, zero, suc, List, [], ◌∷◌, ◌++◌, length, map, Option, Some, None, Bool, true, false, refl, sym, ap, subst, ◌∙◌, arith}
+use mathlib.Core.Bool.{true≢false}
 use Rattle.std.specs.Prelude.{◌||◌, ◌&&◌, ◌==◌, not, nat_lt, nat_le, unwrap_or, slice_get, bytes_eq, codes, Contains, All, option_map, option_to_list, zip, if◌then◌else◌}
 use Rattle.std.specs.Result.{result_ok}
 use Rattle.std.specs.List.{AllByRecursion, flat_map, list_all, list_any, position}
@@ -12,7 +13,11 @@ use Rattle.cube_val.specs.declared.val.ColType.TheVariants as ty
 use Rattle.cube_val.specs.declared.form.ColDesc.{ColDesc}
 use Rattle.cube_val.specs.declared.form.WideCol.{WideCol}
 use Rattle.cube_val.specs.declared.form.JoinStep.{JoinStep}
+use Rattle.measure_laws.specs.declared.kinds.ItemKind.{ItemKind}
+use Rattle.measure_laws.specs.declared.kinds.ItemKind.TheVariants.{Rows, Values, Numbers, Ids}
+use Rattle.measure_laws.specs.declared.measure.MeasureForm.{MeasureForm}
 use Rattle.measure_laws.specs.declared.measure.MeasureForm.TheVariants as form
+use Rattle.measure_laws.specs.Kinds.{form_of_word, item_kind}
 use Rattle.descriptor_json.specs.Bytes.{Shaped, no_json, wrong_at, shaped, shape_of}
 use Rattle.descriptor_json.specs.declared.raw.RawName.{RawName}
 use Rattle.descriptor_json.specs.declared.raw.RawColumn.{RawColumn}
@@ -32,7 +37,7 @@ use Rattle.desc_checks.specs.Tables.{columns_of, fact_columns, has_table, is_joi
 use Rattle.desc_checks.specs.Columns.{has_column, no_column, no_columns, lookup_no_column, named_no_column, dimension_no_column, takes_column, measure_no_column, text_no_column}
 use Rattle.desc_checks.specs.Joins.{are_pairs, bad_join, bad_joins, bad_partition, is_join, is_join_kind, is_pair}
 use Rattle.desc_checks.specs.Dimensions.{bad_dimension, bad_dimensions, bad_rowkey, dimension_bad_rowkey, foreign_key, has_rowkey, in_rowkey, is_derivable, text_bad_rowkey, the_foreign}
-use Rattle.desc_checks.specs.Measures.{bad_measure, bad_measures, function_of, is_measure, is_of_numbers, takes_one}
+use Rattle.desc_checks.specs.Measures.{bad_measure, bad_measures, function_of, is_applied, is_measure, takes_parameter}
 use Rattle.desc_checks.specs.Faults.{each, faults, faults_of_texts, faults_of_names, faults_of_uses}
 use Rattle.desc_checks.specs.declared.kind.DescFault.{DescFault}
 use Rattle.desc_checks.specs.declared.kind.DescKind.TheVariants as kind
@@ -44,7 +49,7 @@ use Rattle.agg_group.specs.Limits.{most_dimensions, most_cuboids}
 use Rattle.agg_group.specs.Built.{AreOf, built_masks}
 use Rattle.cube_desc.specs.Meaning.{all_faults, described, judged}
 use Rattle.cube_desc.specs.Resolve.{column_of, column_place, cube_of, derived_column, derived_named, derived_of, dimension_derived, firsts, form_named, join_of, lookup_of, lookup_place, measure_columns, measure_of, measured_column, measures_of, rowkey_column, rowkey_of, table_number, tables_of, type_named, wide_columns, wide_derived, wide_fact, wide_of}
-use Rattle.cube_desc.specs.Sound.{DescriptorsAreSound, IsDerivedOf, IsJoinOf, IsMeasureOf, IsOfNumbers, IsSound, IsThere, columns_at, foreign_of, measured_columns, type_at}
+use Rattle.cube_desc.specs.Sound.{DescriptorsAreSound, IsDerivedOf, IsJoinOf, IsMeasureOf, IsOfItems, IsOfNumbers, IsSound, IsThere, columns_at, foreign_of, measured_columns, type_at}
 use Rattle.cube_desc.proofs.GroupLemmas.{are_of, groups_sound}
 use Rattle.cube_desc.proofs.Passed.{both, none_both, none_each, none_unless, up_to}
 use Rattle.cube_desc.proofs.SeekFacts.{all_append, all_both, all_flat_map, all_map, either, flat_map-inside, found, is_itself, none_all, not_true, of_five, of_three, other_text, same_text}
@@ -262,24 +267,8 @@ dimensions_sound r (d ∷ ds) a b c e = (dimension_sound r d a.0 b.0 c.0 e.0, di
 
 -- ---- measures
 
-count_sound : (cs : List ColDesc) (i : ℕ) (e k : List ℕ) → e ≡ codes "COUNT" → k ≡ codes "constant" → IsMeasureOf cs (form_named e) (if bytes_eq k (codes "column") then Some i else None)
-count_sound cs i e k he hk =
-    subst (λ (x : List ℕ). IsMeasureOf cs (form_named x) (if bytes_eq k (codes "column") then Some i else None)) (sym he)
-    (subst (λ (x : List ℕ). IsMeasureOf cs form.Count (if bytes_eq x (codes "column") then Some i else None)) (sym hk) tt)
-
-numbers_sound : (cs : List ColDesc) (i : ℕ) (e : List ℕ) → IsOfNumbers cs i → is_of_numbers e ≡ true → IsMeasureOf cs (form_named e) (Some i)
-numbers_sound cs i e n h =
-    let P : List ℕ → Type 0 = λ x. IsMeasureOf cs (form_named x) (Some i) in
-    elim (either (bytes_eq e (codes "SUM") || bytes_eq e (codes "MIN")) (bytes_eq e (codes "MAX")) h) [
-      | inl t ↦ elim (either (bytes_eq e (codes "SUM")) (bytes_eq e (codes "MIN")) t) [
-        | inl u ↦ subst P (sym (same_text e (codes "SUM") u)) n
-        | inr u ↦ subst P (sym (same_text e (codes "MIN") u)) n
-      ]
-      | inr t ↦ subst P (sym (same_text e (codes "MAX") t)) n
-    ]
-
-distinct_sound : (cs : List ColDesc) (i : ℕ) (e : List ℕ) → i < length cs → e ≡ codes "COUNT_DISTINCT" → IsMeasureOf cs (form_named e) (Some i)
-distinct_sound cs i e h he = subst (λ (x : List ℕ). IsMeasureOf cs (form_named x) (Some i)) (sym he) h
+rows_sound : (cs : List ColDesc) (i : ℕ) (k : List ℕ) → k ≡ codes "constant" → IsOfItems cs Rows (if bytes_eq k (codes "column") then Some i else None)
+rows_sound cs i k hk = subst (λ (x : List ℕ). IsOfItems cs Rows (if bytes_eq x (codes "column") then Some i else None)) (sym hk) tt
 
 number_type : (cs : List ColDesc) (i : ℕ) (k : List ℕ) → type_at cs i ≡ Some (type_named k) → is_number_type k ≡ true → IsOfNumbers cs i
 number_type cs i k at h =
@@ -297,36 +286,30 @@ column_there r m h missing =
     let passes = none_unless (not (takes_column m) || has_column (fact_columns r) m.function.parameter.value.text) m.function.parameter.value.place missing in
     subst (λ (b : Bool). (not b || has_column (fact_columns r) m.function.parameter.value.text) ≡ true) h passes
 
-measure_sound : (r : RawDesc) (m : RawMeasure) → is_measure r m ≡ true → first (measure_no_column r m) ≡ None
-    → IsMeasureOf (cols (fact_columns r)) (form_named m.function.expression.text) (measured_column r m)
-measure_sound r m passes missing =
-    let e = m.function.expression.text in
-    let k = m.function.parameter.kind.text in
+-- a measure is of what its items are of
+items_sound : (r : RawDesc) (m : RawMeasure) → first (measure_no_column r m) ≡ None → (k : ItemKind) → takes_parameter r m k ≡ true
+    → IsOfItems (cols (fact_columns r)) k (measured_column r m)
+items_sound r m missing Rows passes =
+    let name = m.function.parameter.value.text in
+    let parts = both (bytes_eq m.function.parameter.kind.text (codes "constant")) (bytes_eq name (codes "1")) passes in
+    rows_sound (cols (fact_columns r)) (column_place (fact_columns r) name) m.function.parameter.kind.text (same_text m.function.parameter.kind.text (codes "constant") parts.0)
+items_sound r m missing Values passes = absurd (true≢false (sym passes))
+items_sound r m missing Numbers passes =
     let name = m.function.parameter.value.text in
     let fact = fact_columns r in
-    let i = column_place fact name in
-    let count = bytes_eq e (codes "COUNT") && takes_one m in
-    let numbers = is_of_numbers e && takes_column m && is_number_type (type_of fact name) in
-    let distinct = bytes_eq e (codes "COUNT_DISTINCT") && takes_column m in
-    elim (either (count || numbers) distinct passes) [
-      | inl s ↦ elim (either count numbers s) [
-        | inl t ↦
-            let a = both (bytes_eq e (codes "COUNT")) (takes_one m) t in
-            let b = both (bytes_eq k (codes "constant")) (bytes_eq name (codes "1")) a.1 in
-            count_sound (cols fact) i e k (same_text e (codes "COUNT") a.0) (same_text k (codes "constant") b.0)
-        | inr t ↦
-            let a = both (is_of_numbers e && takes_column m) (is_number_type (type_of fact name)) t in
-            let b = both (is_of_numbers e) (takes_column m) a.0 in
-            let there = column_there r m b.1 missing in
-            subst (λ (o : Option ℕ). IsMeasureOf (cols fact) (form_named e) o) (sym (taken r m b.1))
-            (numbers_sound (cols fact) i e (number_type (cols fact) i (type_of fact name) (type_found fact name there) a.1) b.0)
-      ]
-      | inr t ↦
-          let a = both (bytes_eq e (codes "COUNT_DISTINCT")) (takes_column m) t in
-          let there = column_there r m a.1 missing in
-          subst (λ (o : Option ℕ). IsMeasureOf (cols fact) (form_named e) o) (sym (taken r m a.1))
-          (distinct_sound (cols fact) i e (place_below fact name there) (same_text e (codes "COUNT_DISTINCT") a.0))
-    ]
+    let parts = both (takes_column m) (is_number_type (type_of fact name)) passes in
+    subst (IsOfItems (cols fact) Numbers) (sym (taken r m parts.0))
+    (number_type (cols fact) (column_place fact name) (type_of fact name) (type_found fact name (column_there r m parts.0 missing)) parts.1)
+items_sound r m missing Ids passes =
+    subst (IsOfItems (cols (fact_columns r)) Ids) (sym (taken r m passes)) (place_below (fact_columns r) m.function.parameter.value.text (column_there r m passes missing))
+
+measure_sound : (r : RawDesc) (m : RawMeasure) → is_measure r m ≡ true → first (measure_no_column r m) ≡ None
+    → IsMeasureOf (cols (fact_columns r)) (form_named m.function.expression.text) (measured_column r m)
+measure_sound r m passes missing = by (form_of_word m.function.expression.text) passes
+  where
+    by : (o : Option MeasureForm) → is_applied r m o ≡ true → IsMeasureOf (cols (fact_columns r)) (unwrap_or o form.Distinct) (measured_column r m)
+    by None p = absurd (true≢false (sym p))
+    by (Some f) p = items_sound r m missing (item_kind f) p
 
 are_measures : (r : RawDesc) (earlier : List (List ℕ)) (ms : List RawMeasure) → first (along function_of (bad_measure r) earlier ms) ≡ None → AllByRecursion (λ m. is_measure r m ≡ true) ms
 are_measures r earlier [] e = tt

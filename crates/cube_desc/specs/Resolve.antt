@@ -10,6 +10,7 @@ use Rattle.cube_val.specs.declared.form.JoinStep.{JoinStep}
 use Rattle.cube_val.specs.declared.form.JoinPlan.{JoinPlan}
 use Rattle.measure_laws.specs.declared.measure.MeasureForm.{MeasureForm}
 use Rattle.measure_laws.specs.declared.measure.MeasureForm.TheVariants as form
+use Rattle.measure_laws.specs.Kinds.{form_of_word}
 use Rattle.descriptor_json.specs.declared.raw.RawName.{RawName}
 use Rattle.descriptor_json.specs.declared.raw.RawColumn.{RawColumn}
 use Rattle.descriptor_json.specs.declared.raw.RawLookup.{RawLookup}
@@ -89,14 +90,7 @@ derived_of r = flat_map (dimension_derived r) r.dimensions
 
 -- ---- measures
 
--- the form that a function's word is, if it is one
-abbrev pub form_of_word : List ℕ → Option MeasureForm
-form_of_word s =
-    if bytes_eq s (codes "COUNT") then Some form.Count else (if bytes_eq s (codes "SUM") then Some form.Sum
-    else (if bytes_eq s (codes "MIN") then Some form.Min else (if bytes_eq s (codes "MAX") then Some form.Max
-    else (if bytes_eq s (codes "COUNT_DISTINCT") then Some form.Distinct else None))))
-
--- .. Distinct where it is none
+-- the form that a function's word names; Distinct where it names none
 abbrev pub form_named : List ℕ → MeasureForm
 form_named s = unwrap_or (form_of_word s) form.Distinct
 

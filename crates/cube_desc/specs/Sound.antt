@@ -10,7 +10,9 @@ use Rattle.cube_val.specs.declared.form.ColDesc.{ColDesc}
 use Rattle.cube_val.specs.declared.form.WideCol.{WideCol}
 use Rattle.cube_val.specs.declared.form.JoinStep.{JoinStep}
 use Rattle.measure_laws.specs.declared.measure.MeasureForm.{MeasureForm}
-use Rattle.measure_laws.specs.declared.measure.MeasureForm.TheVariants as form
+use Rattle.measure_laws.specs.declared.kinds.ItemKind.{ItemKind}
+use Rattle.measure_laws.specs.declared.kinds.ItemKind.TheVariants.{Rows, Numbers, Ids}
+use Rattle.measure_laws.specs.Kinds.{item_kind}
 use Rattle.cube_desc.specs.declared.desc.TableDesc.{TableDesc}
 use Rattle.cube_desc.specs.declared.desc.MeasureDesc.{MeasureDesc}
 use Rattle.cube_desc.specs.declared.desc.DerivedDesc.{DerivedDesc}
@@ -59,14 +61,16 @@ pub record IsDerivedOf (c : Cube) (d : DerivedDesc) : Type 0 where
 abbrev pub IsOfNumbers : List ColDesc → ℕ → Type 0
 IsOfNumbers cols i = (type_at cols i ≡ Some ty.Int) ⊎ (type_at cols i ≡ Some ty.Decimal)
 
--- a count is of no column, a sum, a least or a greatest value is of a column of numbers, and different values are of any column
+-- what a measure of such items is of: one of rows of no column, one of numbers of a column of numbers, and one of different
+-- values of any column; a descriptor asks for no count of known values
+abbrev pub IsOfItems : List ColDesc → ItemKind → Option ℕ → Type 0
+IsOfItems cols Rows None = ⊤
+IsOfItems cols Numbers (Some i) = IsOfNumbers cols i
+IsOfItems cols Ids (Some i) = i < length cols
+IsOfItems cols kind column = ⊥
+
 abbrev pub IsMeasureOf : List ColDesc → MeasureForm → Option ℕ → Type 0
-IsMeasureOf cols form.Count None = ⊤
-IsMeasureOf cols form.Sum (Some i) = IsOfNumbers cols i
-IsMeasureOf cols form.Min (Some i) = IsOfNumbers cols i
-IsMeasureOf cols form.Max (Some i) = IsOfNumbers cols i
-IsMeasureOf cols form.Distinct (Some i) = i < length cols
-IsMeasureOf cols form column = ⊥
+IsMeasureOf cols form column = IsOfItems cols (item_kind form) column
 
 -- the fact table's columns that measures are of, each once
 abbrev pub measured_columns : List MeasureDesc → List ℕ

@@ -12,13 +12,15 @@
 //!   dimension is the place of its column in the rowkey.
 //! - Each number is that of something that is there (`IsSound` in `specs/Sound.antt`), so nobody tests it again.
 //!
-//! The modules: `desc` (the descriptor), `resolve` (names to numbers), `groups` (aggregation groups and cuboids), `read`,
+//! The modules: `desc` (the descriptor), `resolve` (names to numbers), `groups` (aggregation groups and cuboids), `flat_row` (the
+//! places of flat rows), `kept` (the measures that cuboids keep, which nobody else works out), `read`,
 //! `laws` (what holds of all descriptors).
 #![tactic(auto)]
 
 mod desc;
 pub mod flat_row;
 mod groups;
+pub mod kept;
 mod laws;
 mod read;
 mod resolve;

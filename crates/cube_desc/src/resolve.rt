@@ -3,7 +3,7 @@
 ghost use Rattle.std.specs.Prelude.{◌≡◌, ◌==◌, ◌<◌, ◌^◌, ◌++◌, ℕ, List, [], ◌∷◌, map, length, IfOk, IfSome, OnOk, Option, unwrap_or, option_to_list, bytes_eq, option_and_then};
 ghost use Rattle.std.specs.List.{flat_map, position, list_any};
 ghost use Rattle.std.specs.Arc.{arc_value};
-ghost use Rattle.cube_desc.specs.Resolve.{type_of_word, type_named, column_of, table_of, lookup_of, tables_of, column_place, lookup_place, table_number, wide_of, rowkey_column, rowkey_of, derived_column, derived_named, dimension_derived, derived_of, form_of_word, form_named, measured_column, measure_of, measures_of, firsts, measure_columns, join_of, wide_derived, wide_fact, wide_columns, plan_of};
+ghost use Rattle.cube_desc.specs.Resolve.{type_of_word, type_named, column_of, table_of, lookup_of, tables_of, column_place, lookup_place, table_number, wide_of, rowkey_column, rowkey_of, derived_column, derived_named, dimension_derived, derived_of, form_named, measured_column, measure_of, measures_of, firsts, measure_columns, join_of, wide_derived, wide_fact, wide_columns, plan_of};
 ghost use Rattle.descriptor_json.specs.declared.raw.RawLookup.{RawLookup};
 
 use crate::desc::{DerivedDesc, MeasureDesc, TableDesc};
@@ -193,28 +193,10 @@ pub(crate) fn derived_columns(alloc: Global, raw: &RawDesc) -> Result<Vec<Derive
 
 // ---- measures
 
-fn form_of_word(text: &[u8]) -> Option<MeasureForm>
-    ensures { result ≡ form_of_word text.now }
-{
-    if text == b"COUNT".as_slice() {
-        Some(MeasureForm::Count)
-    } else if text == b"SUM".as_slice() {
-        Some(MeasureForm::Sum)
-    } else if text == b"MIN".as_slice() {
-        Some(MeasureForm::Min)
-    } else if text == b"MAX".as_slice() {
-        Some(MeasureForm::Max)
-    } else if text == b"COUNT_DISTINCT".as_slice() {
-        Some(MeasureForm::Distinct)
-    } else {
-        None
-    }
-}
-
 fn form_named(text: &[u8]) -> MeasureForm
     ensures { result ≡ form_named text.now }
 {
-    form_of_word(text).unwrap_or(MeasureForm::Distinct)
+    MeasureForm::of_word(text).unwrap_or(MeasureForm::Distinct)
 }
 
 fn measured_column(raw: &RawDesc, measure: &RawMeasure) -> Option<usize>

@@ -1,6 +1,6 @@
 -- Cell tables are read exactly.
-use Rattle.std.proofs.Common.{◌≡◌, ◌≤◌, ◌<◌, ◌+◌, ◌-◌, ◌*◌, ◌^◌, ◌++◌, ℕ, ℤ, pos, negsuc, zero, suc, Bool, true, false, ◌&&◌, cond, eqb, List, [], ◌∷◌, length, Option, Some, None, refl, sym, ap, subst, ◌∙◌, arith, eq-eqb}
-use Rattle.std.specs.Prelude.{FitsSigned, map, nat_abs, nat_le, nat_lt, sum_by}
+use Rattle.std.proofs.Common.{◌≡◌, ◌≤◌, ◌<◌, ◌*◌, ◌^◌, ◌++◌, ℕ, ℤ, pos, negsuc, Bool, true, false, ◌&&◌, eqb, List, [], ◌∷◌, length, Option, Some, refl, sym, ap, subst, ◌∙◌, arith, eq-eqb}
+use Rattle.std.specs.Prelude.{FitsSigned, nat_abs, nat_le, nat_lt, sum_by}
 use Rattle.std.specs.Cmp.{nat_cmp_total}
 use Rattle.std.specs.Cmp.Lexicographic.{nat_list_cmp_total}
 use Rattle.std.specs.Int.{w32, w64, w128, to_be_bytes}
@@ -13,22 +13,22 @@ use Rattle.std.proofs.lemmas.List.Concat.{flat_map-cons}
 use Rattle.std.proofs.lemmas.List.Sums.{sum_by-cons}
 use Rattle.agg_group.specs.declared.mask.Mask.{Mask}
 use Rattle.byte_frame.specs.Exact.{Exact, IsBytes, Takes}
-use Rattle.byte_frame.specs.Reading.{◌>>=◌, as_at, each_at, if_at, list_at, number_at, signed_at}
+use Rattle.byte_frame.specs.Reading.{as_at, each_at, signed_at}
 use Rattle.byte_frame.specs.Spelling.{EachFits, list_text, rises, signed_text}
 use Rattle.byte_frame.proofs.Exact.{bind_some, exact_as, exact_counted, exact_each, exact_fit, exact_if, exact_list, exact_number, exact_then, some_is, wide32, wide64}
 use Rattle.byte_frame.proofs.Wide.{exact_signed, wide128}
 use Rattle.cell_store.specs.declared.cell.Cell.{Cell}
-use Rattle.cell_store.specs.declared.cell.Cell.TheVariants.{Count, Sum, Min, Max, Distinct}
+use Rattle.cell_store.specs.declared.cell.Cell.TheVariants.{Count, Known, Sum, Min, Max, Distinct}
 use Rattle.cell_store.specs.Cells.{CellRows}
+use Rattle.measure_laws.specs.declared.measure.MeasureForm.{MeasureForm}
+use Rattle.measure_laws.specs.declared.measure.MeasureForm.TheVariants as measure
 use Rattle.measure_laws.specs.Extremes.{Extreme}
-use Rattle.measure_laws.specs.Ids.{Ids, different}
 use Rattle.measure_laws.specs.IdFacts.{different-rising}
 use Rattle.measure_laws.specs.Measures.{Summed, most_of_item}
-use Rattle.cube_fields.specs.Cells.{FitsCell, FitsCells, FitsExtreme, FitsId, FitsIds, FitsRow, FitsSum, FitsTable, FitsTables, are_ordered, cell_text, count_in, id_text, measures_of, row_text, sizes_in, table_text, tables_text, value_text}
+use Rattle.cube_fields.specs.Cells.{FitsCell, FitsCells, FitsForm, FitsId, FitsIds, FitsRow, FitsTable, FitsTables, are_ordered, cell_text, count_in, id_text, measures_of, row_text, sizes_in, table_text, tables_text, value_text}
 use Rattle.cube_fields.specs.Orders.{before}
-use Rattle.cube_fields.specs.Reading.{cell_at, cells_at, count_at, counted_cells_at, counts_fit, distinct_of, greatest_of, id_at, ids_at, is_some_list, key_before, least_of, row_at, rows_at, set_of, sum_at, sum_of, table_at, table_from, tables_at}
-use Rattle.cube_fields.specs.declared.forms.CellForm.{CellForm}
-use Rattle.cube_fields.specs.declared.forms.CellForm.TheVariants as form
+use Rattle.cube_fields.specs.Reading.{cell_at, cells_at, count_at, counted_cells_at, counts_fit, distinct_of, form_at, greatest_of, id_at, ids_at, is_some_list, key_before, least_of, row_at, rows_at, set_of, sum_at, sum_of, table_at, table_from, tables_at}
+use Rattle.cube_fields.specs.declared.forms.CellField.{CellField}
 use Rattle.cube_fields.specs.declared.forms.CellTableForm.{CellTableForm}
 use Rattle.cube_fields.proofs.CellFacts.{set_is}
 use Rattle.cube_fields.proofs.Rises.{keys_rising, keys_sorted, rising, sorted}
@@ -75,26 +75,29 @@ exact_sum n small = exact_fit (signed_text w128) (λ (z : ℤ). FitsSigned w128 
 
 -- ---- one cell
 
-one_take : {A : Type 0} (inj : A → Cell) (n : ℕ) (f : CellForm) (s : A → List ℕ) (F : A → Type 0) (r : List ℕ → Option (A × List ℕ)) → Exact s F r
-    → ((x : A) → F x → FitsCell n f (inj x)) → ((x : A) → F x → s x ≡ cell_text (inj x)) → (bytes : List ℕ) (z : Cell × List ℕ) → IsBytes bytes → as_at inj r bytes ≡ Some z → Takes bytes (cell_text z.0) z.1 × FitsCell n f z.0
-one_take inj n f s F r read fit spelled bytes z fits e =
+one_take : {A : Type 0} (inj : A → Cell) (n size : ℕ) (f : MeasureForm) (s : A → List ℕ) (F : A → Type 0) (r : List ℕ → Option (A × List ℕ)) → Exact s F r
+    → ((x : A) → F x → FitsForm n size f (inj x)) → ((x : A) → F x → s x ≡ cell_text (inj x)) → (bytes : List ℕ) (z : Cell × List ℕ) → IsBytes bytes → as_at inj r bytes ≡ Some z → Takes bytes (cell_text z.0) z.1 × FitsForm n size f z.0
+one_take inj n size f s F r read fit spelled bytes z fits e =
     let a = bind_some (r bytes) (λ x. Some (inj x.0, x.1)) z e in
     let l = read.takes bytes a.0 fits a.1 in
     let made : Cell × List ℕ = (inj a.0.0, a.0.1) in
-    subst (λ (y : Cell × List ℕ). Takes bytes (cell_text y.0) y.1 × FitsCell n f y.0) (some_is made z a.2)
+    subst (λ (y : Cell × List ℕ). Takes bytes (cell_text y.0) y.1 × FitsForm n size f y.0) (some_is made z a.2)
     (subst (λ (w : List ℕ). Takes bytes w a.0.1) (spelled a.0.0 l.1) l.0, fit a.0.0 l.1)
 
 -- the set of a list that rises has its numbers
 set_fits : (n size : ℕ) (ids : List ℕ) → FitsList n size ids → FitsIds n size (set_of n ids)
 set_fits n size ids h = subst (λ (xs : List ℕ). (n ≡ n) × ((0 < length xs) × ((length xs ≤ n) × AllByRecursion (FitsId size) xs))) (sym (different-rising ids h.1.1)) (refl, (h.1.0, (h.0.0, h.0.1)))
 
-cell_takes : (n : ℕ) → n < 2 ^ 32 → (f : CellForm) (bytes : List ℕ) (z : Cell × List ℕ) → IsBytes bytes → cell_at n f bytes ≡ Some z → Takes bytes (cell_text z.0) z.1 × FitsCell n f z.0
-unfolding cell_at
-cell_takes n small form.Sum bytes z fits e = one_take (sum_of n) n form.Sum _ _ (sum_at n) (exact_sum n small) (λ x h. (refl, h)) (λ x h. refl) bytes z fits e
-cell_takes n small form.Min bytes z fits e = one_take (least_of n) n form.Min _ _ (signed_at w64) (exact_signed w64 wide64) (λ x h. (refl, (x, (refl, h)))) (λ x h. refl) bytes z fits e
-cell_takes n small form.Max bytes z fits e = one_take (greatest_of n) n form.Max _ _ (signed_at w64) (exact_signed w64 wide64) (λ x h. (refl, (x, (refl, h)))) (λ x h. refl) bytes z fits e
-cell_takes n small (form.Distinct size) bytes z fits e =
-    one_take (distinct_of n) n (form.Distinct size) (list_text id_text) (FitsList n size) (ids_at n size) (exact_ids n size small) (λ x h. set_fits n size x h) (λ x h. ap (list_text id_text) (sym (different-rising x h.1.1))) bytes z fits e
+form_takes : (n size : ℕ) → n < 2 ^ 32 → (f : MeasureForm) (bytes : List ℕ) (z : Cell × List ℕ) → IsBytes bytes → form_at n size f bytes ≡ Some z → Takes bytes (cell_text z.0) z.1 × FitsForm n size f z.0
+form_takes n size small measure.Count bytes z fits e = absurd cc
+form_takes n size small measure.Known bytes z fits e =
+    let made : Cell × List ℕ = (Known n, bytes) in
+    subst (λ (y : Cell × List ℕ). Takes bytes (cell_text y.0) y.1 × FitsForm n size measure.Known y.0) (some_is made z e) (record { parts = refl; rest_fits = fits }, refl)
+form_takes n size small measure.Sum bytes z fits e = one_take (sum_of n) n size measure.Sum _ _ (sum_at n) (exact_sum n small) (λ x h. (refl, h)) (λ x h. refl) bytes z fits e
+form_takes n size small measure.Min bytes z fits e = one_take (least_of n) n size measure.Min _ _ (signed_at w64) (exact_signed w64 wide64) (λ x h. (refl, (x, (refl, h)))) (λ x h. refl) bytes z fits e
+form_takes n size small measure.Max bytes z fits e = one_take (greatest_of n) n size measure.Max _ _ (signed_at w64) (exact_signed w64 wide64) (λ x h. (refl, (x, (refl, h)))) (λ x h. refl) bytes z fits e
+form_takes n size small measure.Distinct bytes z fits e =
+    one_take (distinct_of n) n size measure.Distinct (list_text id_text) (FitsList n size) (ids_at n size) (exact_ids n size small) (λ x h. set_fits n size x h) (λ x h. ap (list_text id_text) (sym (different-rising x h.1.1))) bytes z fits e
 
 sum_again : (n : ℕ) (s : Summed) → s.items ≡ n → sum_of n s.total ≡ Sum s
 sum_again n s e = λ i. Sum (record { items = sym e i; total = s.total })
@@ -111,32 +114,18 @@ back_again inj s F r read x c rest h spelled is =
     let one : as_at inj r (s x ++ rest) ≡ Some (inj x, rest) = rw (read.again x rest h) refl in
     subst (λ (w : List ℕ). as_at inj r (w ++ rest) ≡ Some (c, rest)) spelled (one ∙ ap (λ (d : Cell). Some (d, rest)) is)
 
-cell_again : (n : ℕ) → n < 2 ^ 32 → (f : CellForm) (c : Cell) (rest : List ℕ) → FitsCell n f c → cell_at n f (cell_text c ++ rest) ≡ Some (c, rest)
-unfolding cell_at
-cell_again n small form.Sum (Sum s) rest h = back_again (sum_of n) _ _ (sum_at n) (exact_sum n small) s.total (Sum s) rest h.1 refl (sum_again n s h.0)
-cell_again n small form.Min (Min m) rest h = back_again (least_of n) _ _ (signed_at w64) (exact_signed w64 wide64) h.1.0 (Min m) rest h.1.1.1 (sym (ap value_text h.1.1.0)) (least_again n m h.1.0 h.0 h.1.1.0)
-cell_again n small form.Max (Max m) rest h = back_again (greatest_of n) _ _ (signed_at w64) (exact_signed w64 wide64) h.1.0 (Max m) rest h.1.1.1 (sym (ap value_text h.1.1.0)) (greatest_again n m h.1.0 h.0 h.1.1.0)
-cell_again n small (form.Distinct size) (Distinct d) rest h =
+form_again : (n size : ℕ) → n < 2 ^ 32 → (f : MeasureForm) (c : Cell) (rest : List ℕ) → FitsForm n size f c → form_at n size f (cell_text c ++ rest) ≡ Some (c, rest)
+form_again n size small measure.Known (Known k) rest h = ap (λ (m : ℕ). Some (Known m, rest)) (sym h)
+form_again n size small measure.Sum (Sum s) rest h = back_again (sum_of n) _ _ (sum_at n) (exact_sum n small) s.total (Sum s) rest h.1 refl (sum_again n s h.0)
+form_again n size small measure.Min (Min m) rest h = back_again (least_of n) _ _ (signed_at w64) (exact_signed w64 wide64) h.1.0 (Min m) rest h.1.1.1 (sym (ap value_text h.1.1.0)) (least_again n m h.1.0 h.0 h.1.1.0)
+form_again n size small measure.Max (Max m) rest h = back_again (greatest_of n) _ _ (signed_at w64) (exact_signed w64 wide64) h.1.0 (Max m) rest h.1.1.1 (sym (ap value_text h.1.1.0)) (greatest_again n m h.1.0 h.0 h.1.1.0)
+form_again n size small measure.Distinct (Distinct d) rest h =
     back_again (distinct_of n) (list_text id_text) (FitsList n size) (ids_at n size) (exact_ids n size small) d.ids (Distinct d) rest ((h.1.1.0, h.1.1.1), (h.1.0, d.rising)) refl (ap Distinct (sym (set_is d n d.ids d.rising h.0 refl)))
-cell_again n small form.Sum (Count c) rest h = absurd h
-cell_again n small form.Sum (Min m) rest h = absurd h
-cell_again n small form.Sum (Max m) rest h = absurd h
-cell_again n small form.Sum (Distinct d) rest h = absurd h
-cell_again n small form.Min (Count c) rest h = absurd h
-cell_again n small form.Min (Sum s) rest h = absurd h
-cell_again n small form.Min (Max m) rest h = absurd h
-cell_again n small form.Min (Distinct d) rest h = absurd h
-cell_again n small form.Max (Count c) rest h = absurd h
-cell_again n small form.Max (Sum s) rest h = absurd h
-cell_again n small form.Max (Min m) rest h = absurd h
-cell_again n small form.Max (Distinct d) rest h = absurd h
-cell_again n small (form.Distinct size) (Count c) rest h = absurd h
-cell_again n small (form.Distinct size) (Sum s) rest h = absurd h
-cell_again n small (form.Distinct size) (Min m) rest h = absurd h
-cell_again n small (form.Distinct size) (Max m) rest h = absurd h
+form_again n size small f c rest h = absurd h
 
-exact_cell : (n : ℕ) → n < 2 ^ 32 → (f : CellForm) → Exact cell_text (FitsCell n f) (cell_at n f)
-exact_cell n small f = record { takes = cell_takes n small f; again = cell_again n small f }
+exact_cell : (n : ℕ) → n < 2 ^ 32 → (field : CellField) → Exact cell_text (FitsCell n field) (cell_at n field)
+unfolding cell_at
+exact_cell n small field = record { takes = form_takes n field.size small field.form; again = form_again n field.size small field.form }
 
 -- ---- the cells of a row
 
@@ -159,50 +148,38 @@ behind [] = []
 behind (c ∷ cells) = cells
 
 -- a count of n, and behind it a cell of n items for each form
-abbrev CountedBy : ℕ → List CellForm → List Cell → Type 0
+abbrev CountedBy : ℕ → List CellField → List Cell → Type 0
 CountedBy n forms (Count m ∷ cells) = (m ≡ n) × EachFits (FitsCell n) forms cells
 CountedBy n forms cells = ⊥
 
-counted_back : (n : ℕ) (forms : List CellForm) (cells : List Cell) → CountedBy n forms cells → ((let x : List Cell = Count n ∷ behind cells in x) ≡ cells) × EachFits (FitsCell n) forms (behind cells)
+counted_back : (n : ℕ) (forms : List CellField) (cells : List Cell) → CountedBy n forms cells → ((let x : List Cell = Count n ∷ behind cells in x) ≡ cells) × EachFits (FitsCell n) forms (behind cells)
 counted_back n forms [] h = absurd h
 counted_back n forms (Count m ∷ cells) h = (ap (λ (k : ℕ). let x : List Cell = Count k ∷ cells in x) (sym h.0), h.1)
-counted_back n forms (Sum s ∷ cells) h = absurd h
-counted_back n forms (Min m ∷ cells) h = absurd h
-counted_back n forms (Max m ∷ cells) h = absurd h
-counted_back n forms (Distinct d ∷ cells) h = absurd h
+counted_back n forms (other ∷ cells) h = absurd h
 
-exact_counted_cells : (n : ℕ) (forms : List CellForm) → n < 2 ^ 32 → Exact (λ (cells : List Cell). flat_map cell_text (behind cells)) (CountedBy n forms) (counted_cells_at n forms)
+exact_counted_cells : (n : ℕ) (forms : List CellField) → n < 2 ^ 32 → Exact (λ (cells : List Cell). flat_map cell_text (behind cells)) (CountedBy n forms) (counted_cells_at n forms)
 unfolding counted_cells_at
 exact_counted_cells n forms small = exact_as (λ (cells : List Cell). Count n ∷ cells) behind (flat_map cell_text) (EachFits (FitsCell n) forms) (CountedBy n forms) (each_at (cell_at n) forms)
     (λ cells h. (refl, (refl, h)))
     (λ cells h. counted_back n forms cells h)
     (exact_each cell_text (FitsCell n) (cell_at n) (exact_cell n small) forms)
 
-cells_one : (most n : ℕ) (forms : List CellForm) (cells : List Cell) → IsCount most n → CountedBy n forms cells → ((let x : ℕ × List Cell = (count_in cells, cells) in x) ≡ (n, cells)) × FitsCells most forms cells
+cells_one : (most n : ℕ) (forms : List CellField) (cells : List Cell) → IsCount most n → CountedBy n forms cells → ((let x : ℕ × List Cell = (count_in cells, cells) in x) ≡ (n, cells)) × FitsCells most forms cells
 cells_one most n forms [] c h = absurd h
 cells_one most n forms (Count m ∷ cells) c h = (ap (λ (k : ℕ). let x : ℕ × List Cell = (k, Count m ∷ cells) in x) h.0, subst (λ (k : ℕ). IsCount most k × EachFits (FitsCell k) forms cells) (sym h.0) (c, h.1))
-cells_one most n forms (Sum s ∷ cells) c h = absurd h
-cells_one most n forms (Min m ∷ cells) c h = absurd h
-cells_one most n forms (Max m ∷ cells) c h = absurd h
-cells_one most n forms (Distinct d ∷ cells) c h = absurd h
+cells_one most n forms (other ∷ cells) c h = absurd h
 
-cells_two : (most : ℕ) (forms : List CellForm) (cells : List Cell) → FitsCells most forms cells → IsCount most (count_in cells) × CountedBy (count_in cells) forms cells
+cells_two : (most : ℕ) (forms : List CellField) (cells : List Cell) → FitsCells most forms cells → IsCount most (count_in cells) × CountedBy (count_in cells) forms cells
 cells_two most forms [] h = absurd h
 cells_two most forms (Count m ∷ cells) h = (h.0, (refl, h.1))
-cells_two most forms (Sum s ∷ cells) h = absurd h
-cells_two most forms (Min m ∷ cells) h = absurd h
-cells_two most forms (Max m ∷ cells) h = absurd h
-cells_two most forms (Distinct d ∷ cells) h = absurd h
+cells_two most forms (other ∷ cells) h = absurd h
 
-cells_spelled : (most : ℕ) (forms : List CellForm) (cells : List Cell) → FitsCells most forms cells → to_be_bytes w64 (count_in cells) ++ flat_map cell_text (behind cells) ≡ flat_map cell_text cells
+cells_spelled : (most : ℕ) (forms : List CellField) (cells : List Cell) → FitsCells most forms cells → to_be_bytes w64 (count_in cells) ++ flat_map cell_text (behind cells) ≡ flat_map cell_text cells
 cells_spelled most forms [] h = absurd h
 cells_spelled most forms (Count m ∷ cells) h = sym (flat_map-cons cell_text (Count m) cells)
-cells_spelled most forms (Sum s ∷ cells) h = absurd h
-cells_spelled most forms (Min m ∷ cells) h = absurd h
-cells_spelled most forms (Max m ∷ cells) h = absurd h
-cells_spelled most forms (Distinct d ∷ cells) h = absurd h
+cells_spelled most forms (other ∷ cells) h = absurd h
 
-exact_cells : (most : ℕ) (forms : List CellForm) → most < 2 ^ 32 → Exact (flat_map cell_text) (FitsCells most forms) (cells_at most forms)
+exact_cells : (most : ℕ) (forms : List CellField) → most < 2 ^ 32 → Exact (flat_map cell_text) (FitsCells most forms) (cells_at most forms)
 exact_cells most forms small =
     exact_spelled (λ (cells : List Cell). to_be_bytes w64 (count_in cells) ++ flat_map cell_text (behind cells)) (flat_map cell_text) (FitsCells most forms) (cells_at most forms) (cells_spelled most forms)
     (exact_as (λ (p : ℕ × List Cell). p.1) (λ (cells : List Cell). (count_in cells, cells)) _ _ (FitsCells most forms) _
@@ -223,7 +200,7 @@ exact_row sizes f small = exact_fit row_text (λ (row : Row). (EachFits FitsId s
     (exact_if (λ (row : Row). list_all (are_ordered row.1) f.extremes) _ _ _
     (exact_then _ _ _ (λ key (cells : List Cell). flat_map cell_text cells) _ _ (exact_each id_text FitsId id_at exact_id sizes) (λ key h. exact_cells f.most f.cells small)))
 
-some_count : (most : ℕ) (forms : List CellForm) (cells : List Cell) → FitsCells most forms cells → 1 ≤ count_in cells
+some_count : (most : ℕ) (forms : List CellField) (cells : List Cell) → FitsCells most forms cells → 1 ≤ count_in cells
 some_count most forms cells h = (cells_two most forms cells h).0.0
 
 -- rows of at least one row each are no more than what they count

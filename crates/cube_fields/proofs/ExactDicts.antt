@@ -1,7 +1,6 @@
 -- Dictionaries are read exactly.
-use Rattle.std.proofs.Common.{◌≡◌, ◌≤◌, ◌<◌, ◌^◌, ℕ, true, List, [], ◌∷◌, ◌++◌, length, Some, arith}
-use Rattle.std.specs.Int.{w32, to_be_bytes}
-use Rattle.std.specs.List.{AllByRecursion, flat_map}
+use Rattle.std.proofs.Common.{◌≡◌, ◌≤◌, ◌<◌, ◌^◌, ℕ, true, List, [], ◌∷◌, length, Some, arith}
+use Rattle.std.specs.List.{AllByRecursion}
 use Rattle.byte_frame.specs.Exact.{Exact}
 use Rattle.byte_frame.specs.Reading.{list_at}
 use Rattle.byte_frame.specs.Spelling.{rises}

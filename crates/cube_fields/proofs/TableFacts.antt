@@ -1,9 +1,7 @@
 -- What is read as rows is a cell table.
-use Rattle.std.proofs.Common.{◌≡◌, ◌≤◌, ◌<◌, ◌+◌, ◌-◌, ◌^◌, ℕ, zero, suc, Bool, true, false, cond, List, [], ◌∷◌, ◌++◌, length, take, Option, Some, None, refl, sym, ap, subst, ◌∙◌, arith}
-use Rattle.std.specs.Prelude.{filter, map, nat_le, nat_lt, slice_get, slice_index_or, sum_by}
+use Rattle.std.proofs.Common.{◌≡◌, ◌≤◌, ◌<◌, ◌+◌, ◌-◌, ◌^◌, ℕ, zero, suc, Bool, true, false, cond, List, [], ◌∷◌, ◌++◌, length, take, Some, refl, sym, ap, subst, ◌∙◌, arith}
+use Rattle.std.specs.Prelude.{filter, map, nat_le, slice_index_or, sum_by}
 use Rattle.std.specs.List.{AllByRecursion, list_all}
-use Rattle.std.specs.Ordering.{nat_cmp}
-use Rattle.std.specs.Cmp.{IsTotalOrder}
 use Rattle.std.specs.Cmp.Lexicographic.{nat_list_cmp_total}
 use Rattle.std.proofs.lemmas.Bool.Decides.{nat_tests}
 use Rattle.std.proofs.lemmas.List.{append-nil, length-map, map-id, take_all}
@@ -13,18 +11,17 @@ use Rattle.std.proofs.lemmas.List.Sums.{length-filter, sum_by-cons}
 use Rattle.agg_group.specs.declared.mask.Mask.{Mask}
 use Rattle.agg_group.specs.Mask.{count_of, has}
 use Rattle.agg_group.specs.Sets.{dimensions}
-use Rattle.byte_frame.specs.Reading.{each_at, list_at, then_at}
+use Rattle.byte_frame.specs.Reading.{each_at, then_at}
+use Rattle.byte_frame.proofs.Exact.{some_is}
 use Rattle.byte_frame.specs.Spelling.{EachFits, rises}
 use Rattle.cell_store.specs.declared.cell.Cell.{Cell}
-use Rattle.cell_store.specs.declared.cell.Cell.TheVariants.{Count, Sum, Min, Max, Distinct}
+use Rattle.cell_store.specs.declared.cell.Cell.TheVariants.{Count, Known}
 use Rattle.cell_store.specs.Cells.{IsCellTable, form_of, items_at, items_of}
 use Rattle.measure_laws.specs.declared.measure.MeasureForm.{MeasureForm}
 use Rattle.measure_laws.specs.declared.measure.MeasureForm.TheVariants as measure
-use Rattle.measure_laws.specs.Measures.{most_items}
-use Rattle.cube_fields.specs.Cells.{are_ordered, count_in, dims_in, measure_of, measures_of, sizes_in}
-use Rattle.cube_fields.specs.Reading.{cell_at, cells_at, count_at, counted_cells_at, counts_fit, id_at, ids_at, key_before, row_at, rows_at, sum_at}
-use Rattle.cube_fields.specs.declared.forms.CellForm.{CellForm}
-use Rattle.cube_fields.specs.declared.forms.CellForm.TheVariants as form
+use Rattle.cube_fields.specs.Cells.{are_ordered, count_in, dims_in, measures_of, sizes_in}
+use Rattle.cube_fields.specs.Reading.{cell_at, cells_at, count_at, counted_cells_at, counts_fit, form_at, id_at, key_before, row_at, rows_at}
+use Rattle.cube_fields.specs.declared.forms.CellField.{CellField}
 use Rattle.cube_fields.specs.declared.forms.CellTableForm.{CellTableForm}
 use Rattle.cube_fields.proofs.Given.{Gets, gets_any, gets_as, gets_each, gets_if, gets_list, gets_then}
 use Rattle.cube_fields.proofs.Rises.{keys_sorted}
@@ -34,45 +31,51 @@ use Rattle.cube_fields.proofs.Rises.{keys_sorted}
 abbrev Row : Type 0
 Row = List ℕ × List Cell
 
--- of the form's measure, and of so many items
-abbrev OfForm : ℕ → CellForm → Cell → Type 0
-OfForm n f c = (form_of c ≡ measure_of f) × (items_of c ≡ n)
+-- of the field's form of measure, and of so many items
+abbrev OfField : ℕ → CellField → Cell → Type 0
+OfField n field c = (form_of c ≡ field.form) × (items_of c ≡ n)
 
-gets_cell : (n : ℕ) (f : CellForm) → Gets (OfForm n f) (cell_at n f)
+abbrev OfForm : ℕ → MeasureForm → Cell → Type 0
+OfForm n f c = (form_of c ≡ f) × (items_of c ≡ n)
+
+gets_form : (n size : ℕ) (f : MeasureForm) → Gets (OfForm n f) (form_at n size f)
+gets_form n size measure.Count = λ bytes z e. absurd cc
+gets_form n size measure.Known = λ bytes z e.
+    let made : Cell × List ℕ = (Known n, bytes) in
+    subst (λ (y : Cell × List ℕ). OfForm n measure.Known y.0) (some_is made z e) (refl, refl)
+gets_form n size measure.Sum = gets_as (λ _. Unit {0}) (OfForm n measure.Sum) _ _ (λ x h. (refl, refl)) (gets_any _)
+gets_form n size measure.Min = gets_as (λ _. Unit {0}) (OfForm n measure.Min) _ _ (λ x h. (refl, refl)) (gets_any _)
+gets_form n size measure.Max = gets_as (λ _. Unit {0}) (OfForm n measure.Max) _ _ (λ x h. (refl, refl)) (gets_any _)
+gets_form n size measure.Distinct = gets_as (λ _. Unit {0}) (OfForm n measure.Distinct) _ _ (λ x h. (refl, refl)) (gets_any _)
+
+gets_cell : (n : ℕ) (field : CellField) → Gets (OfField n field) (cell_at n field)
 unfolding cell_at
-gets_cell n form.Sum = gets_as (λ _. Unit {0}) (OfForm n form.Sum) _ _ (λ x h. (refl, refl)) (gets_any _)
-gets_cell n form.Min = gets_as (λ _. Unit {0}) (OfForm n form.Min) _ _ (λ x h. (refl, refl)) (gets_any _)
-gets_cell n form.Max = gets_as (λ _. Unit {0}) (OfForm n form.Max) _ _ (λ x h. (refl, refl)) (gets_any _)
-gets_cell n (form.Distinct size) = gets_as (λ _. Unit {0}) (OfForm n (form.Distinct size)) _ _ (λ x h. (refl, refl)) (gets_any _)
+gets_cell n field = gets_form n field.size field.form
 
--- a count, and behind it a cell for each form, of so many items
-abbrev AreOfForms : List CellForm → List Cell → Type 0
-AreOfForms forms [] = ⊥
-AreOfForms forms (Count n ∷ cells) = EachFits (OfForm n) forms cells
-AreOfForms forms (Sum s ∷ cells) = ⊥
-AreOfForms forms (Min m ∷ cells) = ⊥
-AreOfForms forms (Max m ∷ cells) = ⊥
-AreOfForms forms (Distinct d ∷ cells) = ⊥
+-- a count, and behind it a cell for each field, of so many items
+abbrev AreOfFields : List CellField → List Cell → Type 0
+AreOfFields fields (Count n ∷ cells) = EachFits (OfField n) fields cells
+AreOfFields fields cells = ⊥
 
-gets_counted : (n : ℕ) (forms : List CellForm) → Gets (AreOfForms forms) (counted_cells_at n forms)
+gets_counted : (n : ℕ) (forms : List CellField) → Gets (AreOfFields forms) (counted_cells_at n forms)
 unfolding counted_cells_at
-gets_counted n forms = gets_as (λ cells. EachFits (OfForm n) forms cells) (AreOfForms forms) (λ cells. Count n ∷ cells) _ (λ cells h. h) (gets_each (OfForm n) (cell_at n) (gets_cell n) forms)
+gets_counted n forms = gets_as (λ cells. EachFits (OfField n) forms cells) (AreOfFields forms) (λ cells. Count n ∷ cells) _ (λ cells h. h) (gets_each (OfField n) (cell_at n) (gets_cell n) forms)
 
-gets_cells : (most : ℕ) (forms : List CellForm) → Gets (AreOfForms forms) (cells_at most forms)
+gets_cells : (most : ℕ) (forms : List CellField) → Gets (AreOfFields forms) (cells_at most forms)
 gets_cells most forms =
-    gets_as (λ (p : ℕ × List Cell). Unit {0} × AreOfForms forms p.1) (AreOfForms forms) (λ p. p.1) _ (λ p h. h.1)
-    (gets_then (λ (n : ℕ). Unit {0}) (λ n cells. AreOfForms forms cells) (count_at most) (λ n. counted_cells_at n forms) (gets_any (count_at most)) (λ n h. gets_counted n forms))
+    gets_as (λ (p : ℕ × List Cell). Unit {0} × AreOfFields forms p.1) (AreOfFields forms) (λ p. p.1) _ (λ p h. h.1)
+    (gets_then (λ (n : ℕ). Unit {0}) (λ n cells. AreOfFields forms cells) (count_at most) (λ n. counted_cells_at n forms) (gets_any (count_at most)) (λ n h. gets_counted n forms))
 
 -- ---- rows
 
 abbrev IsRow : List ℕ → CellTableForm → Row → Type 0
-IsRow sizes f row = EachFits (λ (size id : ℕ). Unit {0}) sizes row.0 × AreOfForms f.cells row.1
+IsRow sizes f row = EachFits (λ (size id : ℕ). Unit {0}) sizes row.0 × AreOfFields f.cells row.1
 
 gets_row : (sizes : List ℕ) (f : CellTableForm) → Gets (IsRow sizes f) (row_at sizes f)
 unfolding row_at
 gets_row sizes f bytes z e =
     (gets_if (IsRow sizes f) (λ row. list_all (are_ordered row.1) f.extremes) (then_at (each_at id_at sizes) (λ _. cells_at f.most f.cells))
-    (gets_then (λ key. EachFits (λ (size id : ℕ). Unit {0}) sizes key) (λ key cells. AreOfForms f.cells cells) (each_at id_at sizes) (λ _. cells_at f.most f.cells)
+    (gets_then (λ key. EachFits (λ (size id : ℕ). Unit {0}) sizes key) (λ key cells. AreOfFields f.cells cells) (each_at id_at sizes) (λ _. cells_at f.most f.cells)
     (gets_each (λ (size id : ℕ). Unit {0}) id_at (λ size. gets_any (id_at size)) sizes) (λ key h. gets_cells f.most f.cells)) bytes z e).0
 
 each_length : {C A : Type 0} (F : C → A → Type 0) (cs : List C) (xs : List A) → EachFits F cs xs → length xs ≡ length cs
@@ -91,39 +94,33 @@ widths : (f : CellTableForm) (mask : Mask) (rows : List Row) → AllByRecursion 
 widths f mask [] h = tt
 widths f mask (row ∷ rows) h = (each_length (λ (size id : ℕ). Unit {0}) (sizes_in f.sizes mask) row.0 h.0.0 ∙ width_is f mask, widths f mask rows h.1)
 
-forms_behind : (n : ℕ) (forms : List CellForm) (cells : List Cell) → EachFits (OfForm n) forms cells → map form_of cells ≡ map measure_of forms
+forms_behind : (n : ℕ) (forms : List CellField) (cells : List Cell) → EachFits (OfField n) forms cells → map form_of cells ≡ map (λ (field : CellField). field.form) forms
 forms_behind n [] [] h = refl
 forms_behind n [] (c ∷ cells) h = absurd h
 forms_behind n (f ∷ forms) [] h = absurd h
 forms_behind n (f ∷ forms) (c ∷ cells) h = λ i. h.0.0 i ∷ forms_behind n forms cells h.1 i
 
-forms_are : (f : CellTableForm) (cells : List Cell) → AreOfForms f.cells cells → map form_of cells ≡ measures_of f
+forms_are : (f : CellTableForm) (cells : List Cell) → AreOfFields f.cells cells → map form_of cells ≡ measures_of f
 forms_are f [] h = absurd h
 forms_are f (Count n ∷ cells) h = ap (λ (ms : List MeasureForm). measure.Count ∷ ms) (forms_behind n f.cells cells h)
-forms_are f (Sum s ∷ cells) h = absurd h
-forms_are f (Min m ∷ cells) h = absurd h
-forms_are f (Max m ∷ cells) h = absurd h
-forms_are f (Distinct d ∷ cells) h = absurd h
+forms_are f (other ∷ cells) h = absurd h
 
 all_forms : (sizes : List ℕ) (f : CellTableForm) (rows : List Row) → AllByRecursion (IsRow sizes f) rows → AllByRecursion (λ (row : Row). map form_of row.1 ≡ measures_of f) rows
 all_forms sizes f [] h = tt
 all_forms sizes f (row ∷ rows) h = (forms_are f row.1 h.0.1, all_forms sizes f rows h.1)
 
-items_behind : (n k : ℕ) (forms : List CellForm) (cells : List Cell) → EachFits (OfForm n) forms cells → items_at k cells ≤ n
+items_behind : (n k : ℕ) (forms : List CellField) (cells : List Cell) → EachFits (OfField n) forms cells → items_at k cells ≤ n
 items_behind n k [] [] h = omega arith
 items_behind n k [] (c ∷ cells) h = absurd h
 items_behind n k (f ∷ forms) [] h = absurd h
 items_behind n zero (f ∷ forms) (c ∷ cells) h = omega (arith, h.0.1)
 items_behind n (suc k) (f ∷ forms) (c ∷ cells) h = items_behind n k forms cells h.1
 
-items_few : (k : ℕ) (forms : List CellForm) (cells : List Cell) → AreOfForms forms cells → items_at k cells ≤ count_in cells
+items_few : (k : ℕ) (forms : List CellField) (cells : List Cell) → AreOfFields forms cells → items_at k cells ≤ count_in cells
 items_few k forms [] h = absurd h
 items_few zero forms (Count n ∷ cells) h = omega arith
 items_few (suc k) forms (Count n ∷ cells) h = items_behind n k forms cells h
-items_few k forms (Sum s ∷ cells) h = absurd h
-items_few k forms (Min m ∷ cells) h = absurd h
-items_few k forms (Max m ∷ cells) h = absurd h
-items_few k forms (Distinct d ∷ cells) h = absurd h
+items_few k forms (other ∷ cells) h = absurd h
 
 abbrev pub rows_of : Row → ℕ
 rows_of row = count_in row.1

@@ -8,15 +8,14 @@ use Rattle.agg_group.specs.Mask.{has}
 use Rattle.agg_group.specs.Sets.{dimensions}
 use Rattle.byte_frame.specs.Spelling.{EachFits, list_text, signed_text}
 use Rattle.cell_store.specs.declared.cell.Cell.{Cell}
-use Rattle.cell_store.specs.declared.cell.Cell.TheVariants.{Count, Sum, Min, Max, Distinct}
+use Rattle.cell_store.specs.declared.cell.Cell.TheVariants.{Count, Known, Sum, Min, Max, Distinct}
 use Rattle.cell_store.specs.Cells.{CellRows, key_cmp}
 use Rattle.measure_laws.specs.declared.measure.MeasureForm.{MeasureForm}
 use Rattle.measure_laws.specs.declared.measure.MeasureForm.TheVariants as measure
 use Rattle.measure_laws.specs.Extremes.{Extreme}
 use Rattle.measure_laws.specs.Ids.{Ids}
 use Rattle.measure_laws.specs.Measures.{Summed, most_of_item}
-use Rattle.cube_fields.specs.declared.forms.CellForm.{CellForm}
-use Rattle.cube_fields.specs.declared.forms.CellForm.TheVariants as form
+use Rattle.cube_fields.specs.declared.forms.CellField.{CellField}
 use Rattle.cube_fields.specs.declared.forms.Extremes.{Extremes}
 use Rattle.cube_fields.specs.declared.forms.CellTableForm.{CellTableForm}
 
@@ -30,9 +29,10 @@ abbrev pub value_text : Option ℤ → List ℕ
 value_text None = []
 value_text (Some v) = signed_text w64 v
 
--- how many items a cell is of isn't written: each cell has as many as its row's count
+-- how many items a cell is of isn't written: each cell has as many as its row's count; so a count of known values takes no byte
 abbrev pub cell_text : Cell → List ℕ
 cell_text (Count n) = to_be_bytes w64 n
+cell_text (Known n) = []
 cell_text (Sum s) = signed_text w128 s.total
 cell_text (Min m) = value_text m.value
 cell_text (Max m) = value_text m.value
@@ -74,18 +74,22 @@ FitsExtreme n m = (m.items ≡ n) × ((v : ℤ) × ((m.value ≡ Some v) × Fits
 abbrev pub FitsIds : ℕ → ℕ → Ids → Type 0
 FitsIds n size d = (d.items ≡ n) × ((0 < length d.ids) × ((length d.ids ≤ n) × AllByRecursion (FitsId size) d.ids))
 
--- a cell of the form, of so many items
-abbrev pub FitsCell : ℕ → CellForm → Cell → Type 0
-FitsCell n form.Sum (Sum s) = FitsSum n s
-FitsCell n form.Min (Min m) = FitsExtreme n m
-FitsCell n form.Max (Max m) = FitsExtreme n m
-FitsCell n (form.Distinct size) (Distinct d) = FitsIds n size d
-FitsCell n f c = ⊥
+-- a cell of the form, of so many items; a second count of rows is none
+abbrev pub FitsForm : ℕ → ℕ → MeasureForm → Cell → Type 0
+FitsForm n size measure.Known (Known k) = k ≡ n
+FitsForm n size measure.Sum (Sum s) = FitsSum n s
+FitsForm n size measure.Min (Min m) = FitsExtreme n m
+FitsForm n size measure.Max (Max m) = FitsExtreme n m
+FitsForm n size measure.Distinct (Distinct d) = FitsIds n size d
+FitsForm n size f c = ⊥
 
--- a count of at least 1 and at most so many, and behind it a cell of so many items for each form
-abbrev pub FitsCells : ℕ → List CellForm → List Cell → Type 0
-FitsCells most forms (Count n ∷ cells) = ((1 ≤ n) × (n ≤ most)) × EachFits (FitsCell n) forms cells
-FitsCells most forms cells = ⊥
+abbrev pub FitsCell : ℕ → CellField → Cell → Type 0
+FitsCell n field c = FitsForm n field.size field.form c
+
+-- a count of at least 1 and at most so many, and behind it a cell of so many items for each field
+abbrev pub FitsCells : ℕ → List CellField → List Cell → Type 0
+FitsCells most fields (Count n ∷ cells) = ((1 ≤ n) × (n ≤ most)) × EachFits (FitsCell n) fields cells
+FitsCells most fields cells = ⊥
 
 -- how many rows the cells count
 abbrev pub count_in : List Cell → ℕ
@@ -112,15 +116,9 @@ dims_in mask = filter (has mask) (dimensions 64)
 unfoldable pub sizes_in : List ℕ → Mask → List ℕ
 sizes_in sizes mask = map (λ d. slice_index_or sizes d 0) (dims_in mask)
 
--- the form of measure that a cell has
-abbrev pub measure_of : CellForm → MeasureForm
-measure_of form.Sum = measure.Sum
-measure_of form.Min = measure.Min
-measure_of form.Max = measure.Max
-measure_of (form.Distinct size) = measure.Distinct
-
+-- the forms of measure of all cells, the count first
 abbrev pub measures_of : CellTableForm → List MeasureForm
-measures_of f = measure.Count ∷ map measure_of f.cells
+measures_of f = measure.Count ∷ map (λ field. field.form) f.cells
 
 -- a key of numbers below the sizes, and cells of the form
 pub record FitsRow (sizes : List ℕ) (f : CellTableForm) (row : List ℕ × List Cell) : Type 0 where

@@ -1,5 +1,5 @@
 -- Readers of dictionaries and of cell tables: what stands at the front of bytes, with the bytes after it, or nothing.
-use Rattle.std.specs.Prelude.{ℕ, zero, suc, ℤ, Bool, true, false, ◌-◌, ◌*◌, ◌==◌, ◌&&◌, nat_abs, nat_le, nat_lt, List, [], ◌∷◌, Option, Some, length, if◌then◌else◌}
+use Rattle.std.specs.Prelude.{ℕ, ℤ, Bool, true, false, ◌-◌, ◌*◌, ◌==◌, ◌&&◌, nat_abs, nat_le, nat_lt, List, [], ◌∷◌, Option, None, Some, length, if◌then◌else◌}
 use Rattle.std.specs.Int.{w32, w64, w128}
 use Rattle.std.specs.List.{list_all}
 use Rattle.std.specs.Ordering.{nat_cmp}
@@ -7,18 +7,19 @@ use Rattle.agg_group.specs.declared.mask.Mask.{Mask}
 use Rattle.byte_frame.specs.Reading.{as_at, counted_at, each_at, if_at, list_at, number_at, signed_at, then_at}
 use Rattle.byte_frame.specs.Spelling.{rises}
 use Rattle.cell_store.specs.declared.cell.Cell.{Cell}
-use Rattle.cell_store.specs.declared.cell.Cell.TheVariants.{Count, Sum, Min, Max, Distinct}
+use Rattle.cell_store.specs.declared.cell.Cell.TheVariants.{Count, Known, Sum, Min, Max, Distinct}
 use Rattle.cell_store.specs.Cells.{CellRows, key_cmp}
 use Rattle.cube_val.specs.declared.val.Val.{Val}
 use Rattle.cube_val.specs.Order.{val_cmp}
+use Rattle.measure_laws.specs.declared.measure.MeasureForm.{MeasureForm}
+use Rattle.measure_laws.specs.declared.measure.MeasureForm.TheVariants as measure
 use Rattle.measure_laws.specs.Ids.{Ids, different, rises-different}
 use Rattle.measure_laws.specs.Measures.{most_of_item}
 use Rattle.step_fields.specs.Reading.{val_at}
 use Rattle.cube_fields.specs.Cells.{are_ordered, count_in, measures_of, sizes_in}
 use Rattle.cube_fields.specs.Orders.{before}
 use Rattle.cube_fields.specs.declared.dicts.DictForm.{DictForm}
-use Rattle.cube_fields.specs.declared.forms.CellForm.{CellForm}
-use Rattle.cube_fields.specs.declared.forms.CellForm.TheVariants as form
+use Rattle.cube_fields.specs.declared.forms.CellField.{CellField}
 use Rattle.cube_fields.specs.declared.forms.CellTableForm.{CellTableForm}
 
 -- ---- dictionaries
@@ -60,24 +61,30 @@ greatest_of n v = Max (record { items = n; value = Some v })
 abbrev pub distinct_of : ℕ → List ℕ → Cell
 distinct_of n ids = Distinct (set_of n ids)
 
--- a cell of the form, of so many items
-unfoldable pub cell_at : ℕ → CellForm → List ℕ → Option (Cell × List ℕ)
-cell_at n form.Sum bytes = as_at (sum_of n) (sum_at n) bytes
-cell_at n form.Min bytes = as_at (least_of n) (signed_at w64) bytes
-cell_at n form.Max bytes = as_at (greatest_of n) (signed_at w64) bytes
-cell_at n (form.Distinct size) bytes = as_at (distinct_of n) (ids_at n size) bytes
+-- a cell of the form, of so many items, with numbers of a dictionary of the size; a second count of rows is none, and a count of
+-- known values has no byte
+abbrev pub form_at : ℕ → ℕ → MeasureForm → List ℕ → Option (Cell × List ℕ)
+form_at n size measure.Count bytes = None
+form_at n size measure.Known bytes = Some (Known n, bytes)
+form_at n size measure.Sum bytes = as_at (sum_of n) (sum_at n) bytes
+form_at n size measure.Min bytes = as_at (least_of n) (signed_at w64) bytes
+form_at n size measure.Max bytes = as_at (greatest_of n) (signed_at w64) bytes
+form_at n size measure.Distinct bytes = as_at (distinct_of n) (ids_at n size) bytes
+
+unfoldable pub cell_at : ℕ → CellField → List ℕ → Option (Cell × List ℕ)
+cell_at n field bytes = form_at n field.size field.form bytes
 
 -- a count of at least 1 and at most so many
 abbrev pub count_at : ℕ → List ℕ → Option (ℕ × List ℕ)
 count_at most = if_at (λ n. nat_le 1 n && nat_le n most) (number_at w64)
 
 -- the cells behind a count, with it
-unfoldable pub counted_cells_at : ℕ → List CellForm → List ℕ → Option (List Cell × List ℕ)
-counted_cells_at n forms = as_at (λ cells. Count n ∷ cells) (each_at (cell_at n) forms)
+unfoldable pub counted_cells_at : ℕ → List CellField → List ℕ → Option (List Cell × List ℕ)
+counted_cells_at n fields = as_at (λ cells. Count n ∷ cells) (each_at (cell_at n) fields)
 
 -- a count, and the cells behind it
-abbrev pub cells_at : ℕ → List CellForm → List ℕ → Option (List Cell × List ℕ)
-cells_at most forms = as_at (λ p. p.1) (then_at (count_at most) (λ n. counted_cells_at n forms))
+abbrev pub cells_at : ℕ → List CellField → List ℕ → Option (List Cell × List ℕ)
+cells_at most fields = as_at (λ p. p.1) (then_at (count_at most) (λ n. counted_cells_at n fields))
 
 -- ---- tables
 

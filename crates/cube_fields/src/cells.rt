@@ -12,11 +12,11 @@ ghost use Rattle.cube_fields.specs.Cells.{are_ordered, value_in};
 ghost use Rattle.cube_fields.specs.Reading.{cell_at, cells_at, count_at, counted_cells_at, distinct_of, greatest_of, id_at, ids_at, least_of, row_at, sum_at, sum_of};
 
 use crate::each::{ReadsIn, read_behind};
-use crate::forms::{CellForm, CellTableForm, Extremes};
+use crate::forms::{CellField, CellTableForm, Extremes};
 use crate::order::rise;
 use byte_frame::{FieldReader, ReadError, Reads, read_list};
 use cell_store::{Cell, CellRow};
-use measure_laws::{Count, IdSet, Max, Min, Sum};
+use measure_laws::{Count, IdSet, Max, MeasureForm, Min, Sum};
 use std::alloc::{AllocError, Global};
 
 // The most that an item brings a sum away from zero.
@@ -177,10 +177,17 @@ fn read_distinct(
     Ok(cell)
 }
 
-impl ReadsIn<ItemCount, Cell> for CellForm {
+// A count of known values: no byte is written of it.
+fn known_cell(count: ItemCount) -> Cell
+    ensures { result ≡ Cell.Known count.items }
+{
+    Cell::Known(Count::of(u64::from(count.items)))
+}
+
+impl ReadsIn<ItemCount, Cell> for CellField {
     ghost use Rattle.cube_fields.specs.Reading.{cell_at};
 
-    ghost at = { λ count form. cell_at count.items form };
+    ghost at = { λ count field. cell_at count.items field };
 
     #[tactic(auto, unfolding(crate::specs::Reading::cell_at))]
     fn read_in(
@@ -189,11 +196,13 @@ impl ReadsIn<ItemCount, Cell> for CellForm {
         env: &ItemCount,
         r: &mut FieldReader,
     ) -> Result<Cell, ReadError> {
-        match self {
-            CellForm::Sum => read_sum(*env, r),
-            CellForm::Min => read_least(*env, r),
-            CellForm::Max => read_greatest(*env, r),
-            CellForm::Distinct(size) => read_distinct(alloc, *env, *size, r),
+        match self.form {
+            MeasureForm::Count => Err(ReadError::Malformed),
+            MeasureForm::Known => Ok(known_cell(*env)),
+            MeasureForm::Sum => read_sum(*env, r),
+            MeasureForm::Min => read_least(*env, r),
+            MeasureForm::Max => read_greatest(*env, r),
+            MeasureForm::Distinct => read_distinct(alloc, *env, self.size, r),
         }
     }
 }
@@ -218,30 +227,30 @@ fn take_count(most: u32, r: &mut FieldReader) -> Result<ItemCount, ReadError>
 fn read_counted_cells(
     alloc: Global,
     count: ItemCount,
-    forms: &[CellForm],
+    fields: &[CellField],
     r: &mut FieldReader,
 ) -> Result<Vec<Cell>, ReadError>
-    ensures { Gives (λ cells. (cells.items, r.new)) result (counted_cells_at count.items forms.now r.old) }
+    ensures { Gives (λ cells. (cells.items, r.new)) result (counted_cells_at count.items fields.now r.old) }
 {
     let mut front = Vec::new(alloc);
     front.push(Cell::Count(Count::of(u64::from(count.items))))?;
-    read_behind(front, alloc, &count, forms, r)
+    read_behind(front, alloc, &count, fields, r)
 }
 
 // A count, and the cells behind it.
 fn read_cells(
     alloc: Global,
     most: u32,
-    forms: &[CellForm],
+    fields: &[CellField],
     r: &mut FieldReader,
 ) -> Result<Vec<Cell>, ReadError>
-    ensures { Gives (λ cells. (cells.items, r.new)) result (cells_at most forms.now r.old) }
+    ensures { Gives (λ cells. (cells.items, r.new)) result (cells_at most fields.now r.old) }
 {
     let count = match take_count(most, r) {
         Ok(count) => count,
         Err(e) => return Err(e),
     };
-    read_counted_cells(alloc, count, forms, r)
+    read_counted_cells(alloc, count, fields, r)
 }
 
 // The value of the least or the greatest cell at a place.

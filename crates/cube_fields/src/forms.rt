@@ -1,18 +1,15 @@
 // What a cell table is read by.
 
 use cube_val::Items;
+use measure_laws::MeasureForm;
 
-/// The form of a cell behind the count.
-#[derive(Clone, Copy, Drop)]
-pub enum CellForm {
-    /// A sum.
-    Sum,
-    /// A least value.
-    Min,
-    /// A greatest value.
-    Max,
-    /// The numbers of different values, in a dictionary of this size.
-    Distinct(u32),
+/// A cell behind the count of rows.
+#[derive(Clone, Copy)]
+pub struct CellField {
+    /// The form of measure. A second count of rows is none.
+    pub form: MeasureForm,
+    /// The size of the measure's dictionary; 0 for a measure without one.
+    pub size: u32,
 }
 
 /// Two cells of a row, by their places: the least and the greatest value of one column.
@@ -29,8 +26,8 @@ pub struct Extremes {
 pub struct CellTableForm {
     /// For each dimension the size of its dictionary.
     pub sizes: Items<u32>,
-    /// The forms of the cells behind the count.
-    pub cells: Items<CellForm>,
+    /// The cells behind the count.
+    pub cells: Items<CellField>,
     /// The least values that may not be greater than a greatest one.
     pub extremes: Items<Extremes>,
     /// The most rows that a table counts.

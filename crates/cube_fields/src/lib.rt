@@ -31,7 +31,7 @@ mod tables;
 
 pub use dicts::{DictForm, read_dicts};
 pub use examples::worked_examples;
-pub use forms::{CellForm, CellTableForm, Extremes};
+pub use forms::{CellField, CellTableForm, Extremes};
 pub use laws::fields_are_exact;
 pub use put::{put_dict, put_dicts, put_table, put_tables};
 pub use tables::{read_table, read_tables};

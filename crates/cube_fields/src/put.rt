@@ -81,6 +81,7 @@ fn put_cell(out: &mut Vec<u8>, cell: &Cell) -> Result<(), AllocError>
 {
     match cell {
         Cell::Count(count) => put_u64(out, count.value()),
+        Cell::Known(_) => Ok(()),
         Cell::Sum(sum) => put_i128(out, sum.value()),
         Cell::Min(least) => put_value(out, least.value()),
         Cell::Max(greatest) => put_value(out, greatest.value()),

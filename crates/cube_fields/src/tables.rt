@@ -3,12 +3,12 @@
 ghost use Rattle.std.specs.Prelude.{◌≡◌, ◌<◌, ◌^◌, IfOk, slice_index_or};
 ghost use Rattle.byte_frame.specs.Outcomes.{Gives};
 ghost use Rattle.cell_store.specs.Cells.{IsCellTable};
-ghost use Rattle.cube_fields.specs.Cells.{count_in, dims_in, measure_of, measures_of, sizes_in};
+ghost use Rattle.cube_fields.specs.Cells.{count_in, dims_in, measures_of, sizes_in};
 ghost use Rattle.cube_fields.specs.Reading.{counts_fit, rows_at, table_at, table_from, tables_at};
 
 use crate::cells::RowOf;
 use crate::each::{ReadsIn, read_behind};
-use crate::forms::{CellForm, CellTableForm};
+use crate::forms::CellTableForm;
 use crate::order::keys_rise;
 use agg_group::Mask;
 use byte_frame::{FieldReader, ReadError, read_list};
@@ -51,18 +51,6 @@ fn size_at(sizes: &[u32], d: u32) -> u32
     }
 }
 
-// The form of measure of a cell.
-fn measure_of(form: &CellForm) -> MeasureForm
-    ensures { result ≡ measure_of form.now }
-{
-    match form {
-        CellForm::Sum => MeasureForm::Sum,
-        CellForm::Min => MeasureForm::Min,
-        CellForm::Max => MeasureForm::Max,
-        CellForm::Distinct(_) => MeasureForm::Distinct,
-    }
-}
-
 // The forms of measure of all cells, the count first.
 fn measures_of(alloc: Global, form: &CellTableForm) -> Result<Vec<MeasureForm>, AllocError>
     ensures { IfOk result (λ v. v.items ≡ measures_of form.now) }
@@ -70,7 +58,7 @@ fn measures_of(alloc: Global, form: &CellTableForm) -> Result<Vec<MeasureForm>, 
     let mut measures = Vec::new(alloc);
     measures.push(MeasureForm::Count)?;
     for cell in form.cells.as_slice() {
-        measures.push(measure_of(cell))?;
+        measures.push(cell.form)?;
     }
     Ok(measures)
 }

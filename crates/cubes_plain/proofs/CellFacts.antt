@@ -2,7 +2,8 @@
 use Rattle.std.proofs.Common.{◌≡◌, ◌∙◌, ℕ, zero, suc, List, [], ◌∷◌, ◌++◌, Some, map, get_or, refl, ap, sym, subst, arith, rules}
 use Rattle.std.specs.declared.cmp.Ordering.{Ordering}
 use Rattle.std.specs.declared.cmp.Ordering.TheVariants.{Less, Equal, Greater}
-use Rattle.std.specs.List.{All, AllByRecursion, Contains, filter, flat_map, slice_get}
+use Rattle.std.specs.Prelude.{Bool, Option, None, cond, false, option_map, true}
+use Rattle.std.specs.List.{All, AllByRecursion, Contains, cons_option, filter, filter_map, flat_map, slice_get}
 use Rattle.std.specs.List.Sorted.{IsStrictlySortedBy}
 use Rattle.std.specs.Ordering.{eq_by_cmp, nat_cmp, ordering_then}
 use Rattle.std.proofs.lemmas.List.{get_or_default, map-id}
@@ -14,24 +15,26 @@ use Rattle.aggregation.specs.Groups.{aggregate, distinct, values_at}
 use Rattle.aggregation.proofs.GroupFacts.{rises-distinct}
 use Rattle.cell_gather.specs.Gathers.{RowMeasure, aggregated, cells_of}
 use Rattle.cell_gather.specs.Keys.{dims_of}
-use Rattle.cell_store.specs.Cells.{CellRows, key_cmp}
+use Rattle.cell_store.specs.Cells.{CellRows, key_cmp, numbers_of_items}
 use Rattle.cell_store.specs.declared.cell.Cell.{Cell}
 use Rattle.cell_store.specs.declared.cell.Cell.TheVariants.{Sum}
+use Rattle.cell_store.specs.declared.cell.RowItem.{RowItem}
 use Rattle.cube_val.proofs.OrderFacts.{val_cmp_exact, val_cmp_same}
 use Rattle.cube_val.specs.Order.{number_of, val_cmp}
 use Rattle.cube_val.specs.OrderLaws.{val_cmp_total}
 use Rattle.cube_val.specs.Values.{FitsType}
 use Rattle.cube_val.specs.declared.val.ColType.TheVariants as ty
 use Rattle.cube_val.specs.declared.val.Val.{Val}
-use Rattle.cube_val.specs.declared.val.Val.TheVariants.{Null}
+use Rattle.cube_val.specs.declared.val.Val.TheVariants.{Null, Int, Text}
 use Rattle.dim_dictionary.proofs.DictLemmas.{count_to_found, keeps_order, keeps_values}
-use Rattle.layer_builder.specs.Base.{base_mask, measures_from, number_in}
+use Rattle.layer_builder.specs.Base.{base_mask, item_of as taken_of, measures_from, number_in}
 use Rattle.layer_builder.specs.Cuboids.{IsCuboid, key_by}
+use Rattle.measure_laws.specs.declared.kinds.ItemKind.TheVariants.{Numbers}
 use Rattle.measure_laws.specs.Measures.{Summed, summed}
 use Rattle.plain_answer.specs.Aggregates.{cell}
 use Rattle.cubes_plain.specs.Cuboids.{IsSumRow, column_dict, d1_alone, dicts_of, row_line, sum_of_m}
 use Rattle.cubes_plain.specs.Folds.{group_line}
-use Rattle.cubes_plain.specs.Rows.{IsFactRow, d1_of, item_of}
+use Rattle.cubes_plain.specs.Rows.{IsFactRow, IsInt, d1_of, item_of, m_of}
 use Rattle.cubes_plain.proofs.ImageFacts.{all-distinct, grouped-image}
 
 -- ---- numbers of values
@@ -86,28 +89,53 @@ numbered dict group = (number_in dict group.0 ∷ [], Sum group.1 ∷ [])
 abbrev measures : List (List Val) → List (RowMeasure (List Val))
 measures rows = measures_from (dicts_of rows) 2 (sum_of_m ∷ [])
 
-number_is : (rows : List (List Val)) → map (λ row. number_of (cell row 2)) rows ≡ map item_of rows
-number_is rows = λ i. map (λ row. number_of (unwrap_or-slice_get row 2 Null i)) rows
+abbrev take_m : List Val → Option RowItem
+take_m row = taken_of Numbers [] (cell row 2)
+
+-- a value of M is a number, which is what a sum takes
+one_number_of : (m : Val) → IsInt m → option_map (λ (item : RowItem). item.number) (taken_of Numbers [] m) ≡ Some (number_of m)
+one_number_of Null h = absurd h
+one_number_of (Int n) h = refl
+one_number_of (Text t) h = absurd h
+
+-- the numbers of rows of facts
+number_is : (rows : List (List Val)) → AllByRecursion IsFactRow rows → numbers_of_items (filter_map take_m rows) ≡ map item_of rows
+number_is [] all = refl
+number_is (row ∷ rows) all =
+    by (take_m row) (ap (λ m. option_map (λ (item : RowItem). item.number) (taken_of Numbers [] m)) (unwrap_or-slice_get row 2 Null) ∙ one_number_of (m_of row) all.0.3) (number_is rows all.1)
+  where
+    by : (o : Option RowItem) → option_map (λ (item : RowItem). item.number) o ≡ Some (item_of row) → numbers_of_items (filter_map take_m rows) ≡ map item_of rows
+        → numbers_of_items (cons_option o (filter_map take_m rows)) ≡ item_of row ∷ map item_of rows
+    by None e rest = absurd cc
+    by (Some item) e rest = let same : item.number ≡ item_of row = cc in λ i. same i ∷ rest i
+
+all_picked : (P : List Val → Type 0) (t : List Val → Bool) (rows : List (List Val)) → AllByRecursion P rows → AllByRecursion P (filter t rows)
+all_picked P t [] all = tt
+all_picked P t (r ∷ rows) all = by (t r) (all_picked P t rows all.1)
+  where
+    by : (b : Bool) → AllByRecursion P (filter t rows) → AllByRecursion P (cond b (r ∷ filter t rows) (filter t rows))
+    by true more = (all.0, more)
+    by false more = more
 
 -- the cells of the rows of a D1
-cells_at : (rows : List (List Val)) (d1 : Val) → cells_of (measures rows) (values_at val_cmp d1_of (λ row. row) rows d1) ≡ Sum (summed (values_at val_cmp d1_of item_of rows d1)) ∷ []
-cells_at rows d1 =
+cells_at : (rows : List (List Val)) → AllByRecursion IsFactRow rows → (d1 : Val) → cells_of (measures rows) (values_at val_cmp d1_of (λ row. row) rows d1) ≡ Sum (summed (values_at val_cmp d1_of item_of rows d1)) ∷ []
+cells_at rows all d1 =
     let own = filter (λ r. eq_by_cmp val_cmp d1 (d1_of r)) rows in
-    ap (λ l. cells_of (measures rows) l) (map-id own) ∙ ap (λ l. Sum (summed l) ∷ []) (number_is own)
+    ap (λ l. cells_of (measures rows) l) (map-id own) ∙ ap (λ l. Sum (summed l) ∷ []) (number_is own (all_picked IsFactRow (λ r. eq_by_cmp val_cmp d1 (d1_of r)) rows all))
 
-numbered_cells : (rows : List (List Val)) (ds : List Val)
+numbered_cells : (rows : List (List Val)) → AllByRecursion IsFactRow rows → (ds : List Val)
     → map {B = List ℕ × List Cell} (λ d1. (number_in (dict_of rows) d1 ∷ [], cells_of (measures rows) (values_at val_cmp d1_of (λ row. row) rows d1))) ds
     ≡ map (numbered (dict_of rows)) (map {B = Val × Summed} (λ d1. (d1, summed (values_at val_cmp d1_of item_of rows d1))) ds)
-numbered_cells rows [] = refl
-numbered_cells rows (d ∷ ds) = let here = cells_at rows d in let rest = numbered_cells rows ds in λ i. (number_in (dict_of rows) d ∷ [], here i) ∷ rest i
+numbered_cells rows all [] = refl
+numbered_cells rows all (d ∷ ds) = let here = cells_at rows all d in let rest = numbered_cells rows all ds in λ i. (number_in (dict_of rows) d ∷ [], here i) ∷ rest i
 
 -- the aggregate by the number of D1 has the groups of the text
-aggregated_groups : (rows : List (List Val)) → aggregated (measures rows) (λ row. number_in (dict_of rows) (cell row 0) ∷ []) rows ≡ map (numbered (dict_of rows)) (groups_by_d1 rows)
-aggregated_groups rows =
+aggregated_groups : (rows : List (List Val)) → AllByRecursion IsFactRow rows → aggregated (measures rows) (λ row. number_in (dict_of rows) (cell row 0) ∷ []) rows ≡ map (numbered (dict_of rows)) (groups_by_d1 rows)
+aggregated_groups rows all =
     (λ i. aggregated (measures rows) (λ row. number_in (dict_of rows) (unwrap_or-slice_get row 0 Null i) ∷ []) rows)
     ∙ grouped-image val_cmp key_cmp (λ v. number_in (dict_of rows) v ∷ []) (Contains (dict_of rows)) (key_alike (dict_of rows) (dict_rises rows)) d1_of (λ row. row) (cells_of (measures rows)) rows
     (d1_is_there rows)
-    ∙ numbered_cells rows (distinct val_cmp (map d1_of rows))
+    ∙ numbered_cells rows all (distinct val_cmp (map d1_of rows))
 
 -- the key by D1 is its number
 key_by_d1 : (rows : List (List Val)) (row : List Val) → key_by (dicts_of rows) d1_alone row ≡ number_in (dict_of rows) (cell row 0) ∷ []
@@ -115,8 +143,8 @@ unfolding dims_of
 key_by_d1 rows row = refl
 
 -- the cuboid by D1 has the groups of the text
-pub cuboid_groups : (rows : List (List Val)) (table : CellRows) → IsCuboid (sum_of_m ∷ []) (dicts_of rows) rows d1_alone table → table.rows ≡ map (numbered (dict_of rows)) (groups_by_d1 rows)
-cuboid_groups rows table is = is.rows ∙ (λ i. aggregated (measures rows) (λ row. key_by_d1 rows row i) rows) ∙ aggregated_groups rows
+pub cuboid_groups : (rows : List (List Val)) (table : CellRows) → All IsFactRow rows → IsCuboid (sum_of_m ∷ []) (dicts_of rows) rows d1_alone table → table.rows ≡ map (numbered (dict_of rows)) (groups_by_d1 rows)
+cuboid_groups rows table facts is = is.rows ∙ (λ i. aggregated (measures rows) (λ row. key_by_d1 rows row i) rows) ∙ aggregated_groups rows (recursion_from_All IsFactRow rows facts)
 
 -- ---- the rows of the cuboid
 

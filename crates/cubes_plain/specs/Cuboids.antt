@@ -3,7 +3,7 @@ use Rattle.std.specs.Prelude.{◌≡◌, ◌<◌, ℕ, List, [], ◌∷◌, Some
 use Rattle.agg_group.specs.declared.mask.Mask.{Mask}
 use Rattle.cell_store.specs.Cells.{form_of}
 use Rattle.cell_store.specs.declared.cell.Cell.{Cell}
-use Rattle.cell_store.specs.declared.cell.Cell.TheVariants.{Count, Sum, Min, Max, Distinct}
+use Rattle.cell_store.specs.declared.cell.Cell.TheVariants.{Count, Sum}
 use Rattle.cube_val.specs.declared.val.ColType.TheVariants as ty
 use Rattle.cube_val.specs.declared.val.Val.{Val}
 use Rattle.cube_val.specs.declared.val.Val.TheVariants.{Null}
@@ -33,11 +33,8 @@ dicts_of rows = column_dict rows 0 ∷ column_dict rows 1 ∷ []
 
 -- the sum in a cell; another measure reads as that of no number
 abbrev pub sum_in : Cell → Summed
-sum_in (Count c) = summed []
 sum_in (Sum s) = s
-sum_in (Min m) = summed []
-sum_in (Max m) = summed []
-sum_in (Distinct d) = summed []
+sum_in c = summed []
 
 -- a row of a cuboid of one dimension and one sum: its key is a number of the dictionary
 pub record IsSumRow (dict : List Val) (row : List ℕ × List Cell) : Type 0 where

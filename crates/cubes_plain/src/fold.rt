@@ -73,10 +73,7 @@ fn sum_in(cell: &Cell) -> &Sum
 {
     match cell {
         Cell::Sum(sum) => sum,
-        Cell::Count(_) => unreachable!(),
-        Cell::Min(_) => unreachable!(),
-        Cell::Max(_) => unreachable!(),
-        Cell::Distinct(_) => unreachable!(),
+        _ => unreachable!(),
     }
 }
 

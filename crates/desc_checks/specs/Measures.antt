@@ -1,5 +1,9 @@
 -- The functions of measures.
-use Rattle.std.specs.Prelude.{ℕ, List, [], ◌∷◌, ◌++◌, codes, Bool, ◌&&◌, ◌||◌, bytes_eq}
+use Rattle.std.specs.Prelude.{ℕ, List, [], ◌∷◌, ◌++◌, Option, Some, None, codes, Bool, false, ◌&&◌, bytes_eq}
+use Rattle.measure_laws.specs.declared.kinds.ItemKind.{ItemKind}
+use Rattle.measure_laws.specs.declared.kinds.ItemKind.TheVariants.{Rows, Values, Numbers, Ids}
+use Rattle.measure_laws.specs.declared.measure.MeasureForm.{MeasureForm}
+use Rattle.measure_laws.specs.Kinds.{form_of_word, item_kind}
 use Rattle.descriptor_json.specs.Places.{JsonPointer}
 use Rattle.descriptor_json.specs.declared.raw.RawMeasure.{RawMeasure}
 use Rattle.descriptor_json.specs.declared.raw.RawDesc.{RawDesc}
@@ -12,15 +16,21 @@ use Rattle.desc_checks.specs.Types.{type_of, is_number_type}
 abbrev pub takes_one : RawMeasure → Bool
 takes_one m = bytes_eq m.function.parameter.kind.text (codes "constant") && bytes_eq m.function.parameter.value.text (codes "1")
 
-abbrev pub is_of_numbers : List ℕ → Bool
-is_of_numbers e = bytes_eq e (codes "SUM") || bytes_eq e (codes "MIN") || bytes_eq e (codes "MAX")
+-- what a measure of such items is applied to: rows are counted of the constant 1, numbers are of a column of numbers, and
+-- different values of any column; known values are counted unasked
+abbrev pub takes_parameter : RawDesc → RawMeasure → ItemKind → Bool
+takes_parameter r m Rows = takes_one m
+takes_parameter r m Values = false
+takes_parameter r m Numbers = takes_column m && is_number_type (type_of (fact_columns r) m.function.parameter.value.text)
+takes_parameter r m Ids = takes_column m
 
--- COUNT of the constant 1; SUM, MIN or MAX of a column of numbers; COUNT_DISTINCT of any column
+abbrev pub is_applied : RawDesc → RawMeasure → Option MeasureForm → Bool
+is_applied r m None = false
+is_applied r m (Some form) = takes_parameter r m (item_kind form)
+
+-- a function that there is, applied to what it takes
 abbrev pub is_measure : RawDesc → RawMeasure → Bool
-is_measure r m =
-    (bytes_eq m.function.expression.text (codes "COUNT") && takes_one m)
-    || (is_of_numbers m.function.expression.text && takes_column m && is_number_type (type_of (fact_columns r) m.function.parameter.value.text))
-    || (bytes_eq m.function.expression.text (codes "COUNT_DISTINCT") && takes_column m)
+is_measure r m = is_applied r m (form_of_word m.function.expression.text)
 
 -- the function and what it is applied to
 abbrev pub function_of : RawMeasure → List ℕ

@@ -3,7 +3,7 @@
 ghost use Rattle.std.specs.Prelude.{◌≡◌, ℕ, List, [], Option, Bool, IfOk};
 ghost use Rattle.std.specs.Option.{option_copied};
 ghost use Rattle.desc_checks.specs.Firsts.{first, unless, along};
-ghost use Rattle.desc_checks.specs.Measures.{takes_one, is_of_numbers, is_measure, function_of, bad_measure, bad_measures};
+ghost use Rattle.desc_checks.specs.Measures.{takes_one, takes_parameter, is_measure, function_of, bad_measure, bad_measures};
 
 use crate::along::{Along, first_from_start};
 use crate::check::place_unless;
@@ -11,6 +11,7 @@ use crate::columns::takes_column;
 use crate::tables::fact_columns;
 use crate::types::{is_number_type, type_of};
 use descriptor_json::{JsonPointer, RawDesc, RawMeasure};
+use measure_laws::{ItemKind, MeasureForm};
 use std::alloc::{AllocError, Global};
 
 fn takes_one(measure: &RawMeasure) -> bool
@@ -21,24 +22,29 @@ fn takes_one(measure: &RawMeasure) -> bool
     kind.text.bytes() == b"constant".as_slice() && value.text.bytes() == b"1".as_slice()
 }
 
-fn is_of_numbers(expression: &[u8]) -> bool
-    ensures { result ≡ is_of_numbers expression.now }
+// Whether a measure of such items is applied to what it takes.
+fn takes_parameter(raw: &RawDesc, measure: &RawMeasure, kind: ItemKind) -> bool
+    ensures { result ≡ takes_parameter raw.now measure.now kind }
 {
-    expression == b"SUM".as_slice()
-        || expression == b"MIN".as_slice()
-        || expression == b"MAX".as_slice()
+    match kind {
+        ItemKind::Rows => takes_one(measure),
+        ItemKind::Values => false,
+        ItemKind::Numbers => {
+            let value = &measure.function.parameter.value;
+            takes_column(measure) && is_number_type(type_of(fact_columns(raw), value.text.bytes()))
+        }
+        ItemKind::Ids => takes_column(measure),
+    }
 }
 
 fn is_measure(raw: &RawDesc, measure: &RawMeasure) -> bool
     ensures { result ≡ is_measure raw.now measure.now }
 {
-    let function = &measure.function;
-    let (word, value) = (&function.expression, &function.parameter.value);
-    let expression = word.text.bytes();
-    let kind = type_of(fact_columns(raw), value.text.bytes());
-    expression == b"COUNT".as_slice() && takes_one(measure)
-        || is_of_numbers(expression) && takes_column(measure) && is_number_type(kind)
-        || expression == b"COUNT_DISTINCT".as_slice() && takes_column(measure)
+    let word = &measure.function.expression;
+    match MeasureForm::of_word(word.text.bytes()) {
+        None => false,
+        Some(form) => takes_parameter(raw, measure, form.item_kind()),
+    }
 }
 
 /// A measure whose function is none, or that of an earlier measure.

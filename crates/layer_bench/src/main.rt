@@ -23,11 +23,21 @@ const VALUES: [u64; 8] = [12, 5, 6, 4, 3, 8, 2, 5];
 // How many sellers there are.
 const SELLERS: u64 = 2000;
 
-// COUNT, and SUM, MIN and MAX of the prices, and the different sellers.
-const AGGS: [Agg; 5] = [
+// COUNT, the known prices and sellers, SUM, MIN and MAX of the prices, and the different sellers: what a cube keeps that is asked for these.
+const AGGS: [Agg; 7] = [
     Agg {
         kind: AggKind::Count,
         column: None,
+        ty: ColType::Int,
+    },
+    Agg {
+        kind: AggKind::Known,
+        column: Some(8),
+        ty: ColType::Int,
+    },
+    Agg {
+        kind: AggKind::Known,
+        column: Some(9),
         ty: ColType::Int,
     },
     Agg {

@@ -22,8 +22,9 @@ use Rattle.cell_gather.proofs.GatherFacts.{key_exact, law}
 use Rattle.cell_gather.proofs.KeyFacts.{whole_part}
 use Rattle.cell_gather.proofs.RowFacts.{items-cells}
 use Rattle.cell_gather.proofs.TableFacts.{Row, sum_mapped}
+use Rattle.plain_answer.specs.Kinds.{form_of_kind}
+use Rattle.layer_builder.specs.Base.{IsBase, base_mask, key_in, key_width, measures_from}
 use Rattle.layer_builder.specs.Pieces.{AreBases, ArePieces}
-use Rattle.layer_builder.specs.Base.{IsBase, base_mask, form_of_kind, key_in, key_width, measures_from}
 use Rattle.layer_builder.proofs.BaseFacts.{forms_from}
 use Rattle.layer_builder.proofs.MaskFacts.{count_base}
 

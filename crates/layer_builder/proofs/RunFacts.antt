@@ -22,7 +22,8 @@ use Rattle.cell_gather.proofs.RunFacts.{IsUp, first_counts, grouped-front, group
 use Rattle.cell_gather.proofs.TableFacts.{Row, all_mapped, sum_mapped}
 use Rattle.cube_val.specs.declared.val.Val.{Val}
 use Rattle.plain_answer.specs.declared.ask.Agg.{Agg}
-use Rattle.layer_builder.specs.Base.{IsBase, base_mask, form_of_kind, key_in, key_width, measures_from}
+use Rattle.plain_answer.specs.Kinds.{form_of_kind}
+use Rattle.layer_builder.specs.Base.{IsBase, base_mask, key_in, key_width, measures_from}
 use Rattle.layer_builder.specs.Runs.{cells_by_key, has_key}
 use Rattle.layer_builder.proofs.PieceFacts.{length_laws, sum_below, width_of_key}
 

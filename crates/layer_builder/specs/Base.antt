@@ -1,19 +1,21 @@
 -- The base cuboid: the aggregate of flat rows by all rowkey columns, in dictionary numbers.
-use Rattle.std.specs.Prelude.{◌≡◌, ◌+◌, ◌-◌, ◌^◌, ℕ, List, [], ◌∷◌, Option, Some, None, count_by, length, map, slice_get, unwrap_or}
+use Rattle.std.specs.Prelude.{◌≡◌, ◌+◌, ◌-◌, ◌^◌, ℕ, pos, List, [], ◌∷◌, Option, Some, None, count_by, length, map, option_map, slice_get, unwrap_or}
 use Rattle.std.specs.Ordering.{is_lt}
 use Rattle.agg_group.specs.declared.mask.Mask.{Mask}
 use Rattle.agg_group.specs.Sets.{dimensions}
-use Rattle.measure_laws.specs.declared.measure.MeasureForm.{MeasureForm}
-use Rattle.measure_laws.specs.declared.measure.MeasureForm.TheVariants as form
+use Rattle.measure_laws.specs.declared.kinds.ItemKind.{ItemKind}
+use Rattle.measure_laws.specs.declared.kinds.ItemKind.TheVariants.{Rows, Values, Numbers, Ids}
+use Rattle.measure_laws.specs.Kinds.{dict_after, item_kind}
 use Rattle.cube_val.specs.declared.val.Val.{Val}
 use Rattle.cube_val.specs.declared.val.Val.TheVariants.{Null}
-use Rattle.cube_val.specs.Order.{number_of, val_cmp}
+use Rattle.cube_val.specs.Order.{val_cmp}
 use Rattle.plain_answer.specs.declared.ask.Agg.{Agg}
 use Rattle.plain_answer.specs.declared.ask.AggKind.{AggKind}
-use Rattle.plain_answer.specs.declared.ask.AggKind.TheVariants.{Count, Sum, Min, Max, Distinct, Avg}
-use Rattle.plain_answer.specs.Aggregates.{cell}
+use Rattle.plain_answer.specs.Aggregates.{cell, known, number_in as number_if_any}
+use Rattle.plain_answer.specs.Kinds.{form_of_kind}
 use Rattle.cell_store.specs.Cells.{CellRows}
 use Rattle.cell_store.specs.declared.cell.Cell.{Cell}
+use Rattle.cell_store.specs.declared.cell.RowItem.{RowItem}
 use Rattle.cell_gather.specs.Gathers.{RowMeasure, aggregated}
 
 -- the number of a value in a dictionary: how many of its values are less
@@ -33,29 +35,25 @@ abbrev pub value_at : Option ℕ → List Val → Val
 value_at None row = Null
 value_at (Some column) row = cell row column
 
--- the form in which an aggregate is kept; of an average the sum
-abbrev pub form_of_kind : AggKind → MeasureForm
-form_of_kind Count = form.Count
-form_of_kind Sum = form.Sum
-form_of_kind Min = form.Min
-form_of_kind Max = form.Max
-form_of_kind Distinct = form.Distinct
-form_of_kind Avg = form.Sum
+-- what a measure of these items takes of a value in its column: nothing of a null, and of what is no number no number
+abbrev pub item_of : ItemKind → List Val → Val → Option RowItem
+item_of Rows dict v = Some (record { number = pos 0; id = 0 })
+item_of Values dict v = option_map (λ w. record { number = pos 0; id = 0 }) (known v)
+item_of Numbers dict v = option_map (λ n. record { number = n; id = 0 }) (number_if_any v)
+item_of Ids dict v = option_map (λ w. record { number = pos 0; id = number_in dict w }) (known v)
 
--- what an aggregate takes of a row: the number in its column, and the number of its value in a dictionary
+-- an aggregate as a measure of rows, with the dictionary of its column, if it has one
 abbrev pub measure_of : Agg → List Val → RowMeasure (List Val)
 measure_of agg dict = record {
   form = form_of_kind agg.kind;
-  number = λ row. number_of (value_at agg.column row);
-  id = λ row. number_in dict (value_at agg.column row);
+  item = λ row. item_of (item_kind (form_of_kind agg.kind)) dict (value_at agg.column row);
 }
 
 -- the place of the dictionary after an aggregate: each COUNT_DISTINCT has one, in order
 abbrev pub next_after : AggKind → ℕ → ℕ
-next_after Distinct place = place + 1
-next_after kind place = place
+next_after kind place = dict_after (form_of_kind kind) place
 
--- what aggregates take of a row, where the dictionaries of the COUNT_DISTINCTs begin at a place
+-- aggregates as measures of rows, where the dictionaries of the COUNT_DISTINCTs begin at a place
 abbrev pub measures_from : List (List Val) → ℕ → List Agg → List (RowMeasure (List Val))
 measures_from dicts place [] = []
 measures_from dicts place (agg ∷ aggs) = measure_of agg (dict_at dicts place) ∷ measures_from dicts (next_after agg.kind place) aggs

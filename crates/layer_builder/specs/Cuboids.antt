@@ -8,7 +8,8 @@ use Rattle.plain_answer.specs.Aggregates.{cell}
 use Rattle.cell_store.specs.Cells.{CellRows}
 use Rattle.cell_gather.specs.Gathers.{aggregated}
 use Rattle.cell_gather.specs.Keys.{dims_of}
-use Rattle.layer_builder.specs.Base.{IsBase, base_mask, dict_at, form_of_kind, key_width, measures_from, number_in}
+use Rattle.plain_answer.specs.Kinds.{form_of_kind}
+use Rattle.layer_builder.specs.Base.{IsBase, base_mask, dict_at, key_width, measures_from, number_in}
 use Rattle.layer_builder.specs.Layers.{IsRegrouped}
 
 -- the key of a row by the dimensions of a mask, rising: the number of its value in each of these columns

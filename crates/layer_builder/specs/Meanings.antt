@@ -1,45 +1,49 @@
 -- What a cuboid means: its keys and its sets of different values in values, not in the numbers of dictionaries.
-use Rattle.std.specs.Prelude.{◌≡◌, ℕ, List, [], ◌∷◌, All, Contains, length, map, slice_index_or}
+use Rattle.std.specs.Prelude.{◌≡◌, ℕ, List, [], ◌∷◌, All, Contains, IsTrue, if◌then◌else◌, map, slice_index_or}
+use Rattle.std.specs.List.{filter_map}
 use Rattle.std.specs.List.Sorted.{IsStrictlySortedBy}
 use Rattle.agg_group.specs.declared.mask.Mask.{Mask}
 use Rattle.aggregation.specs.Groups.{aggregate, distinct}
 use Rattle.cell_gather.specs.Keys.{dims_of}
+use Rattle.cell_store.specs.Cells.{CellRows, cell_of_items, ids_in, without_ids}
 use Rattle.cell_store.specs.declared.cell.Cell.{Cell}
-use Rattle.cell_store.specs.declared.cell.Cell.TheVariants as kept
 use Rattle.cube_val.specs.declared.val.Val.{Val}
 use Rattle.cube_val.specs.declared.val.Val.TheVariants.{Null}
-use Rattle.cube_val.specs.Order.{number_of, row_cmp, val_cmp}
-use Rattle.measure_laws.specs.Extremes.{Extreme, greatest_of, least_of}
-use Rattle.measure_laws.specs.Measures.{Summed, summed}
-use Rattle.plain_answer.specs.Aggregates.{cell}
+use Rattle.cube_val.specs.Order.{row_cmp, val_cmp}
+use Rattle.measure_laws.specs.declared.measure.MeasureForm.{MeasureForm}
+use Rattle.measure_laws.specs.Kinds.{has_dictionary, item_kind}
+use Rattle.plain_answer.specs.Aggregates.{cell, known}
 use Rattle.plain_answer.specs.declared.ask.Agg.{Agg}
-use Rattle.plain_answer.specs.declared.ask.AggKind.{AggKind}
-use Rattle.plain_answer.specs.declared.ask.AggKind.TheVariants as kind
-use Rattle.layer_builder.specs.Base.{dict_at, key_width, next_after, value_at}
+use Rattle.plain_answer.specs.Kinds.{form_of_kind}
+use Rattle.layer_builder.specs.Base.{dict_at, item_of, key_width, next_after, value_at}
 use Rattle.layer_builder.specs.Cuboids.{IsCuboid}
-use Rattle.cell_store.specs.Cells.{CellRows}
 
 -- ---- rows in values
 
 -- a measure of the rows of a group, with values where a cell has numbers of a dictionary
-pub data ValueCell : Type 0 where
-  Count : ℕ → ValueCell
-  Sum : Summed → ValueCell
-  Min : Extreme → ValueCell
-  Max : Extreme → ValueCell
-  Distinct : ℕ → List Val → ValueCell
+pub record ValueCell : Type 0 where
+  -- the cell without these numbers
+  pub cell : Cell
+  -- the values that they are of
+  pub values : List Val
 
--- what an aggregate of the kind over a column makes of rows; a row that has no number counts as 0, and null is a value
-abbrev pub value_of_kind : AggKind → (List Val → Val) → List (List Val) → ValueCell
-value_of_kind kind.Count value rows = Count (length rows)
-value_of_kind kind.Sum value rows = Sum (summed (map (λ row. number_of (value row)) rows))
-value_of_kind kind.Min value rows = Min (least_of (map (λ row. number_of (value row)) rows))
-value_of_kind kind.Max value rows = Max (greatest_of (map (λ row. number_of (value row)) rows))
-value_of_kind kind.Distinct value rows = Distinct (length rows) (distinct val_cmp (map value rows))
-value_of_kind kind.Avg value rows = Sum (summed (map (λ row. number_of (value row)) rows))
+-- the values of a column in rows, those that aren't null
+abbrev pub known_in : (List Val → Val) → List (List Val) → List Val
+known_in value rows = filter_map (λ row. known (value row)) rows
+
+-- the different values of those, where a measure of the form keeps them
+abbrev pub values_kept : MeasureForm → List Val → List Val
+values_kept form vs = if has_dictionary form then distinct val_cmp vs else []
+
+-- what a measure of the form over a column makes of rows, without a dictionary
+abbrev pub value_of_form : MeasureForm → (List Val → Val) → List (List Val) → ValueCell
+value_of_form form value rows = record {
+  cell = without_ids (cell_of_items form (filter_map (λ row. item_of (item_kind form) [] (value row)) rows));
+  values = values_kept form (known_in value rows);
+}
 
 abbrev pub values_of_aggs : List Agg → List (List Val) → List ValueCell
-values_of_aggs aggs rows = map (λ agg. value_of_kind agg.kind (value_at agg.column) rows) aggs
+values_of_aggs aggs rows = map (λ agg. value_of_form (form_of_kind agg.kind) (value_at agg.column) rows) aggs
 
 -- a row's values in some columns
 abbrev pub values_by : List ℕ → List Val → List Val
@@ -63,11 +67,7 @@ key_values (dict ∷ dicts) (id ∷ ids) = value_in dict id ∷ key_values dicts
 
 -- a cell with the values of its numbers in a dictionary
 abbrev pub cell_values : List Val → Cell → ValueCell
-cell_values dict (kept.Count n) = Count n
-cell_values dict (kept.Sum s) = Sum s
-cell_values dict (kept.Min m) = Min m
-cell_values dict (kept.Max m) = Max m
-cell_values dict (kept.Distinct s) = Distinct s.items (map (value_in dict) s.ids)
+cell_values dict c = record { cell = without_ids c; values = map (value_in dict) (ids_in c) }
 
 -- the cells of aggregates, where the dictionaries of the COUNT_DISTINCTs begin at a place
 abbrev pub cells_values : List (List Val) → ℕ → List Agg → List Cell → List ValueCell
@@ -86,10 +86,15 @@ pub record HasValues (dict : List Val) (value : List Val → Val) (rows : List (
   pub rising : IsStrictlySortedBy val_cmp dict
   pub there : All (λ row. Contains dict (value row)) rows
 
+-- the dictionary rises and has the value of each row where that isn't null
+pub record HasKnown (dict : List Val) (value : List Val → Val) (rows : List (List Val)) : Type 0 where
+  pub rising : IsStrictlySortedBy val_cmp dict
+  pub there : All (λ v. Contains dict v) (known_in value rows)
+
 -- the dictionary of each COUNT_DISTINCT has the values of its column, where those dictionaries begin at a place
 abbrev pub HasDistincts : List (List Val) → ℕ → List Agg → List (List Val) → Type 0
 HasDistincts dicts place [] rows = Unit {0}
-HasDistincts dicts place (agg ∷ aggs) rows = (agg.kind ≡ kind.Distinct → HasValues (dict_at dicts place) (value_at agg.column) rows) × HasDistincts dicts (next_after agg.kind place) aggs rows
+HasDistincts dicts place (agg ∷ aggs) rows = (IsTrue (has_dictionary (form_of_kind agg.kind)) → HasKnown (dict_at dicts place) (value_at agg.column) rows) × HasDistincts dicts (next_after agg.kind place) aggs rows
 
 -- each value that counts is in its dictionary
 pub record IsNumbered (aggs : List Agg) (dicts : List (List Val)) (dims : Mask) (rows : List (List Val)) : Type 0 where

@@ -9,7 +9,8 @@ ghost use Rattle.cell_gather.specs.Gathers.{gathered};
 ghost use Rattle.cell_gather.specs.Keys.{part_of};
 ghost use Rattle.cell_store.specs.Cells.{ItemsAreFew, key_cmp};
 ghost use Rattle.cube_val.specs.declared.val.Val.{Val};
-ghost use Rattle.layer_builder.specs.Base.{IsBase, base_mask, count_of_distincts, form_of_kind, measures_from};
+ghost use Rattle.layer_builder.specs.Base.{IsBase, base_mask, count_of_distincts, measures_from};
+ghost use Rattle.plain_answer.specs.Kinds.{form_of_kind};
 ghost use Rattle.layer_builder.specs.Pieces.{AreBases, ArePieces};
 ghost use Rattle.layer_builder.specs.Runs.{cells_by_key};
 
@@ -211,7 +212,8 @@ pub fn base_of_pieces(
 
 /// The base cuboid: the aggregate of rows by all rowkey columns, in dictionary numbers. There is a dictionary for each rowkey
 /// column and then one for each COUNT_DISTINCT, in order. The rows are cut into at most so many pieces, and the answer is
-/// the same for every number of them. A row that has no number in the column of a SUM, MIN or MAX counts as 0 there.
+/// the same for every number of them. A measure of a column passes over the rows that have null there, and a SUM, MIN or
+/// MAX over those that have no number.
 pub fn base<R: Threads + Sync>(
     rt: &R,
     alloc: Global,

@@ -4,7 +4,8 @@ ghost use Rattle.std.specs.Prelude.{◌≡◌, ◌≤◌, ◌<◌, ◌+◌, IfOk
 ghost use Rattle.std.specs.List.{AllZip, flat_map};
 ghost use Rattle.agg_group.specs.Mask.{IsWithin};
 ghost use Rattle.measure_laws.specs.Measures.{most_items};
-ghost use Rattle.layer_builder.specs.Base.{base_mask, count_of_distincts, form_of_kind, key_width};
+ghost use Rattle.plain_answer.specs.Kinds.{form_of_kind};
+ghost use Rattle.layer_builder.specs.Base.{base_mask, count_of_distincts, key_width};
 ghost use Rattle.layer_builder.specs.Cuboids.{IsCuboid};
 
 use crate::base_cuboid::{cut, joined, piece};

@@ -1,45 +1,60 @@
 // Keys of rows, in dictionary numbers.
 
-ghost use Rattle.std.specs.Prelude.{◌≡◌, ◌≤◌, ◌<◌, IfOk, length, map};
-ghost use Rattle.cube_val.specs.Order.{number_of};
+ghost use Rattle.std.specs.Prelude.{◌≡◌, ◌≤◌, ◌<◌, IfOk, IsTrue, length, map};
+ghost use Rattle.measure_laws.specs.Kinds.{are_ids};
 ghost use Rattle.plain_answer.specs.Aggregates.{cell};
-ghost use Rattle.layer_builder.specs.Base.{dict_at, key_in, number_in, value_at};
+ghost use Rattle.layer_builder.specs.Base.{dict_at, item_of, key_in, number_in, value_at};
 
 use crate::place_cache::PlaceCache;
 use crate::runs::{INLINE, KeyedRow};
+use cell_store::RowItem;
 use cube_val::{Row, Val};
 use dim_dictionary::{Dict, DictSet};
+use measure_laws::ItemKind;
 use smallvec::SmallVec;
 use std::alloc::{AllocError, Global};
 
-/// The number of a row's value in the dictionary at a place. A column that isn't there reads as null.
-pub(crate) fn id_at(dicts: &DictSet, place: usize, vals: &[Val], column: Option<usize>) -> u32
-    requires { place < length dicts.now }
-    ensures { result ≡ number_in (dict_at dicts.now place) (value_at column vals.now) }
+// What a measure of these items takes of a value. The place is that of the dictionary of a measure of ids.
+fn item_of(kind: ItemKind, dicts: &DictSet, place: usize, v: &Val) -> Option<RowItem>
+    requires { IsTrue (are_ids kind) → place < length dicts.now }
+    ensures { result ≡ item_of kind (dict_at dicts.now place) v.now }
 {
-    let dict = dicts.get(place);
-    match column {
-        None => dict.lower_bound(&Val::Null),
-        Some(column) => match vals.get(column) {
-            None => dict.lower_bound(&Val::Null),
-            Some(v) => dict.lower_bound(v),
+    match kind {
+        ItemKind::Rows => Some(RowItem { number: 0, id: 0 }),
+        ItemKind::Values => match v {
+            Val::Null => None,
+            Val::Int(_) | Val::Text(_) => Some(RowItem { number: 0, id: 0 }),
+        },
+        ItemKind::Numbers => match v {
+            Val::Int(n) => Some(RowItem { number: *n, id: 0 }),
+            Val::Null | Val::Text(_) => None,
+        },
+        ItemKind::Ids => match v {
+            Val::Null => None,
+            Val::Int(_) | Val::Text(_) => {
+                let id = dicts.get(place).lower_bound(v);
+                Some(RowItem { number: 0, id })
+            }
         },
     }
 }
 
-/// The number in a row's column; one that has none, or isn't there, reads as 0.
-pub(crate) fn number_at(vals: &[Val], column: Option<usize>) -> i64
-    ensures { result ≡ number_of (value_at column vals.now) }
+/// What a measure of these items takes of a row's value in a column. A column that isn't there reads as null.
+pub(crate) fn item_at(
+    kind: ItemKind,
+    dicts: &DictSet,
+    place: usize,
+    vals: &[Val],
+    column: Option<usize>,
+) -> Option<RowItem>
+    requires { IsTrue (are_ids kind) → place < length dicts.now }
+    ensures { result ≡ item_of kind (dict_at dicts.now place) (value_at column vals.now) }
 {
     match column {
-        None => 0,
+        None => item_of(kind, dicts, place, &Val::Null),
         Some(column) => match vals.get(column) {
-            None => 0,
-            Some(v) => match v {
-                Val::Null => 0,
-                Val::Int(n) => *n,
-                Val::Text(_) => 0,
-            },
+            None => item_of(kind, dicts, place, &Val::Null),
+            Some(v) => item_of(kind, dicts, place, v),
         },
     }
 }

@@ -6,12 +6,15 @@
 //! no item is neutral, and the measure of two lists joined is the merge of their measures. So rows may be aggregated
 //! in any parts and in any order. The laws have no premise, since the value of a measure is a canonical form: equal
 //! measures have equal values.
+//!
+//! What a form of measure is of, rows, values, numbers or the numbers of a dictionary, is said once: `MeasureForm::item_kind`.
 #![tactic(auto)]
 
 mod count;
 mod examples;
 mod id_set;
 mod id_union;
+mod kinds;
 mod laws;
 mod max;
 mod measure;
@@ -19,9 +22,10 @@ mod min;
 mod sum;
 
 pub use count::Count;
-pub use examples::{examples_of_extremes_and_sets, worked_examples};
+pub use examples::{examples_of_extremes_and_sets, examples_of_kinds, worked_examples};
 pub use id_set::IdSet;
 pub use id_union::IdUnion;
+pub use kinds::ItemKind;
 pub use laws::laws_of_measure;
 pub use max::Max;
 pub use measure::{Measure, MeasureForm};

@@ -5,11 +5,13 @@ ghost use Rattle.measure_laws.specs.Measures.{MeasureLaws, most_items};
 
 use std::alloc::{AllocError, Global};
 
-/// The forms of measure that a cube keeps.
+/// The forms of measure that a cube keeps. But a count of rows, each is of the values of a column, and passes over nulls.
 #[derive(Clone, Copy, Debug, PartialEq, Eq)]
 pub enum MeasureForm {
-    /// How many items there are.
+    /// How many rows there are.
     Count,
+    /// How many values of a column aren't null.
+    Known,
     /// The sum of the items.
     Sum,
     /// The least item.

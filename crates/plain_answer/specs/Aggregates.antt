@@ -13,7 +13,7 @@ use Rattle.plain_answer.specs.declared.answer.OutVal.{OutVal}
 use Rattle.plain_answer.specs.declared.answer.OutVal.TheVariants as out
 use Rattle.plain_answer.specs.declared.ask.Agg.{Agg}
 use Rattle.plain_answer.specs.declared.ask.AggKind.{AggKind}
-use Rattle.plain_answer.specs.declared.ask.AggKind.TheVariants.{Count, Sum, Min, Max, Distinct, Avg}
+use Rattle.plain_answer.specs.declared.ask.AggKind.TheVariants.{Count, Known, Sum, Min, Max, Distinct, Avg}
 use Rattle.plain_answer.specs.OutVals.{in_units, shown_number}
 
 -- a row's value in a column
@@ -62,6 +62,7 @@ average_shown t (n ∷ ns) = out.Units (int_div (column_units t (int_sum (n ∷ 
 -- what an aggregate of the kind makes of rows
 abbrev pub shown_of_kind : AggKind → Option ℕ → ColType → List (List Val) → OutVal
 shown_of_kind Count column t rows = out.Whole (pos (length rows))
+shown_of_kind Known column t rows = out.Whole (pos (length (known_values column rows)))
 shown_of_kind Distinct column t rows = out.Whole (pos (length (distinct val_cmp (known_values column rows))))
 shown_of_kind Sum column t rows = sum_shown t (numbers_of (known_values column rows))
 shown_of_kind Min column t rows = number_or_null t (reduce int_min (numbers_of (known_values column rows)))

@@ -2,6 +2,9 @@
 use Rattle.std.specs.Prelude.{◌≡◌, ◌<◌, ◌⊎◌, ⊤, ℕ, List, [], ◌∷◌, ◌++◌, length, map, All, Contains, IsSome}
 use Rattle.cube_val.specs.declared.val.ColType.{ColType}
 use Rattle.cube_val.specs.declared.val.ColType.TheVariants as ty
+use Rattle.measure_laws.specs.declared.kinds.ItemKind.{ItemKind}
+use Rattle.measure_laws.specs.declared.kinds.ItemKind.TheVariants.{Rows, Values, Numbers, Ids}
+use Rattle.measure_laws.specs.Kinds.{item_kind}
 use Rattle.plain_answer.specs.declared.ask.Agg.{Agg}
 use Rattle.plain_answer.specs.declared.ask.AggKind.{AggKind}
 use Rattle.plain_answer.specs.declared.ask.AggKind.TheVariants as kind
@@ -12,6 +15,7 @@ use Rattle.plain_answer.specs.declared.cond.Lit.{Lit}
 use Rattle.plain_answer.specs.declared.cond.Lit.TheVariants.{Number, Text}
 use Rattle.plain_answer.specs.declared.cond.Term.{Term}
 use Rattle.plain_answer.specs.declared.cond.Term.TheVariants.{Col, Agg as Agg'}
+use Rattle.plain_answer.specs.Kinds.{form_of_kind}
 
 -- ---- the parts of a condition
 
@@ -50,16 +54,18 @@ HasNumbers ty.Decimal = ⊤
 HasNumbers ty.Text = ⊥
 HasNumbers ty.Date = ⊥
 
+-- a column of the type has items of the kind
+abbrev pub TakesItems : ItemKind → ColType → Type 0
+TakesItems Rows t = ⊤
+TakesItems Values t = ⊤
+TakesItems Numbers t = HasNumbers t
+TakesItems Ids t = ⊤
+
 -- an aggregate of the kind may stand over a column of the type
 abbrev pub TakesType : AggKind → ColType → Type 0
-TakesType kind.Count t = ⊤
-TakesType kind.Distinct t = ⊤
-TakesType kind.Sum t = HasNumbers t
-TakesType kind.Min t = HasNumbers t
-TakesType kind.Max t = HasNumbers t
-TakesType kind.Avg t = HasNumbers t
+TakesType kind t = TakesItems (item_kind (form_of_kind kind)) t
 
--- all but a count name a column, and those that work with numbers one of numbers
+-- all but a count of rows name a column, and those that work with numbers one of numbers
 abbrev pub IsSoundAgg : Agg → Type 0
 IsSoundAgg agg = (agg.kind ≡ kind.Count) ⊎ (IsSome agg.column × TakesType agg.kind agg.ty)
 

@@ -3,7 +3,7 @@ use Rattle.std.specs.Prelude.{ℕ, ℤ, pos, neg_ℤ, List, [], ◌∷◌, Some,
 use Rattle.agg_group.specs.declared.mask.Mask.{Mask}
 use Rattle.cube_val.specs.declared.val.ColType.TheVariants as ty
 use Rattle.cube_val.specs.declared.val.Val.{Val}
-use Rattle.cube_val.specs.declared.val.Val.TheVariants.{Int, Text}
+use Rattle.cube_val.specs.declared.val.Val.TheVariants.{Int, Null, Text}
 use Rattle.plain_answer.specs.declared.ask.Agg.{Agg}
 use Rattle.plain_answer.specs.declared.ask.AggKind.TheVariants as kind
 use Rattle.plain_answer.specs.declared.ask.Ask.{Ask}
@@ -22,13 +22,28 @@ january = sale (codes "EU") 7 (pos 100000) ∷ sale (codes "EU") 8 (pos 55000) �
 abbrev pub february : List (List Val)
 february = sale (codes "EU") 8 (neg_ℤ (pos 22500)) ∷ []
 
+-- a sale without a price
+abbrev unpriced : List ℕ → ℕ → List Val
+unpriced region seller = Text region ∷ Int (pos seller) ∷ Null ∷ []
+
+-- the sales of january, where the first has no price
+abbrev pub january_with_a_hole : List (List Val)
+january_with_a_hole = unpriced (codes "EU") 7 ∷ sale (codes "EU") 8 (pos 55000) ∷ sale (codes "US") 7 (pos 10000) ∷ []
+
+-- .. where neither of EU has one
+abbrev pub january_with_two_holes : List (List Val)
+january_with_two_holes = unpriced (codes "EU") 7 ∷ unpriced (codes "EU") 8 ∷ sale (codes "US") 7 (pos 10000) ∷ []
+
 abbrev pub average_price : Agg
 average_price = record { kind = kind.Avg; column = Some 2; ty = ty.Decimal }
 
 abbrev pub count_of_rows : Agg
 count_of_rows = record { kind = kind.Count; column = None; ty = ty.Int }
 
-abbrev total_price : Agg
+abbrev pub known_prices : Agg
+known_prices = record { kind = kind.Known; column = Some 2; ty = ty.Decimal }
+
+abbrev pub total_price : Agg
 total_price = record { kind = kind.Sum; column = Some 2; ty = ty.Decimal }
 
 abbrev pub sellers : Agg

@@ -3,6 +3,7 @@ pub mod Answers
 pub mod Asks
 pub mod Conditions
 pub mod Examples
+pub mod Kinds
 pub mod Laws
 pub mod OutRefs
 pub mod OutVals

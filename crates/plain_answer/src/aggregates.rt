@@ -209,6 +209,7 @@ pub(crate) fn aggregate_rows(alloc: Global, agg: Agg, rows: &[&Row]) -> Result<O
     let numbers = numbers(alloc, &values)?;
     match agg.kind {
         AggKind::Count => Ok(OutVal::Whole(rows.len() as i128)),
+        AggKind::Known => Ok(OutVal::Whole(values.len() as i128)),
         AggKind::Distinct => count_distinct(alloc, &values),
         AggKind::Sum => show_sum(alloc, agg.ty, &numbers),
         AggKind::Min => Ok(show_or_null(agg.ty, least(&numbers))),

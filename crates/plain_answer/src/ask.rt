@@ -3,11 +3,13 @@
 use crate::cond::{Cond, Term};
 use cube_val::{ColType, Items, NameText};
 
-/// The kinds of aggregate.
+/// The kinds of aggregate. But the number of rows, each is of a column's values that aren't null.
 #[derive(Clone, Copy, Debug, PartialEq, Eq)]
 pub enum AggKind {
     /// The number of rows.
     Count,
+    /// The number of a column's values that aren't null.
+    Known,
     /// The sum of a column.
     Sum,
     /// The least value of a column.
@@ -20,7 +22,7 @@ pub enum AggKind {
     Avg,
 }
 
-/// An aggregate of a column. Only a count names none.
+/// An aggregate of a column. Only a count of rows names none.
 #[derive(Clone, Copy, Debug, PartialEq, Eq)]
 pub struct Agg {
     /// What is made of the column's values.

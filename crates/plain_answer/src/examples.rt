@@ -4,7 +4,7 @@ ghost use Rattle.std.specs.Prelude.{◌≡◌, ◌++◌, [], ◌∷◌, pos, neg
 ghost use Rattle.cube_val.specs.declared.val.Val.TheVariants.{Text};
 ghost use Rattle.plain_answer.specs.Answers.{plain_of};
 ghost use Rattle.plain_answer.specs.Asks.{IsSound};
-ghost use Rattle.plain_answer.specs.Examples.{average_price, best_region, by_region, count_of_rows, february, january, no_dims, sellers, small_regions, totals};
+ghost use Rattle.plain_answer.specs.Examples.{average_price, best_region, by_region, count_of_rows, february, january, january_with_a_hole, january_with_two_holes, known_prices, no_dims, sellers, small_regions, total_price, totals};
 ghost use Rattle.plain_answer.specs.Projections.{aggregate_by};
 ghost use Rattle.plain_answer.specs.declared.answer.OutVal.TheVariants as out;
 
@@ -21,4 +21,11 @@ pub fn worked_examples()
     ensures one_projection { aggregate_by no_dims (count_of_rows ∷ []) january ≡ record { key = []; values = out.Whole (pos 3) ∷ [] } ∷ [] }
     ensures no_projection { aggregate_by no_dims (count_of_rows ∷ []) [] ≡ [] }
     ensures sound { IsSound small_regions }
+{}
+
+/// A price that is null is no price: it isn't counted as known, has no part in the sum, and the average is over the others.
+/// Over no price at all both are null.
+pub fn examples_with_nulls()
+    ensures a_hole { aggregate_by by_region (count_of_rows ∷ known_prices ∷ total_price ∷ average_price ∷ []) january_with_a_hole ≡ record { key = Text (codes "EU") ∷ []; values = out.Whole (pos 2) ∷ out.Whole (pos 1) ∷ out.Units (pos 55000) ∷ out.Units (pos 55000) ∷ [] } ∷ record { key = Text (codes "US") ∷ []; values = out.Whole (pos 1) ∷ out.Whole (pos 1) ∷ out.Units (pos 10000) ∷ out.Units (pos 10000) ∷ [] } ∷ [] }
+    ensures two_holes { aggregate_by by_region (count_of_rows ∷ known_prices ∷ total_price ∷ average_price ∷ sellers ∷ []) january_with_two_holes ≡ record { key = Text (codes "EU") ∷ []; values = out.Whole (pos 2) ∷ out.Whole (pos 0) ∷ out.Null ∷ out.Null ∷ out.Whole (pos 2) ∷ [] } ∷ record { key = Text (codes "US") ∷ []; values = out.Whole (pos 1) ∷ out.Whole (pos 1) ∷ out.Units (pos 10000) ∷ out.Units (pos 10000) ∷ out.Whole (pos 1) ∷ [] } ∷ [] }
 {}

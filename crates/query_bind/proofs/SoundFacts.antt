@@ -1,6 +1,6 @@
 -- The ask of a query without a fault is sound.
 use Rattle.std.proofs.Common.{◌≡◌, inl, inr, ℕ, ◌<◌, ◌≤◌, List, [], ◌∷◌, ◌++◌, map, length, fold, refl, sym, ap, ◌∙◌, subst, arith, cond}
-use Rattle.std.specs.Prelude.{◌⊎◌, Bool, true, false, ◌&&◌, ◌==◌, Option, Some, None, unwrap_or, option_map, slice_get, nat_lt, Contains}
+use Rattle.std.specs.Prelude.{◌⊎◌, Bool, true, false, ◌&&◌, ◌||◌, ◌==◌, Option, Some, None, unwrap_or, option_map, slice_get, nat_lt, Contains}
 use Rattle.std.specs.Option.{option_or}
 use Rattle.std.specs.List.{flat_map, list_any, position_or_len, AllByRecursion as Each}
 use Rattle.std.proofs.lemmas.Bool.{eqb-true, ltb-true}
@@ -11,8 +11,12 @@ use Rattle.cube_val.specs.declared.val.ColType.{ColType}
 use Rattle.cube_val.specs.declared.val.ColType.TheVariants as ty
 use Rattle.cube_val.specs.declared.form.ColDesc.{ColDesc}
 use Rattle.cube_val.specs.declared.form.WideCol.{WideCol}
+use Rattle.measure_laws.specs.declared.kinds.ItemKind.{ItemKind}
+use Rattle.measure_laws.specs.declared.kinds.ItemKind.TheVariants.{Numbers, Values}
 use Rattle.measure_laws.specs.declared.measure.MeasureForm.{MeasureForm}
 use Rattle.measure_laws.specs.declared.measure.MeasureForm.TheVariants as form
+use Rattle.measure_laws.specs.Kinds.{item_kind, same_form}
+use Rattle.measure_laws.proofs.FormFacts.{same_form_is}
 use Rattle.cube_desc.specs.Cube.{Cube}
 use Rattle.cube_desc.specs.Forms.{is_of}
 use Rattle.cube_desc.specs.Resolve.{wide_derived, wide_fact}
@@ -35,7 +39,7 @@ use Rattle.query_names.specs.Least.{lesser, least}
 use Rattle.query_names.specs.Parts.{place_of, cond_terms, cond_pairs, of_cond, of_pairs, key_term, of_group_terms}
 use Rattle.query_names.specs.Resolve.{found, type_at, type_from, column_type, columns_at, same_column, dimension_at, dimension_count}
 use Rattle.query_names.specs.Names.{no_tables, no_columns}
-use Rattle.query_names.specs.Uses.{not_dimensions, row_not_dimension, group_not_dimension, not_dimension, no_measures, no_measure, is_kept, has_measure, is_measure, form_number, measured, not_grouped_terms, not_grouped, is_grouped, same_found}
+use Rattle.query_names.specs.Uses.{not_dimensions, row_not_dimension, group_not_dimension, not_dimension, no_measures, no_measure, gives, is_kept, has_measure, measured, not_grouped_terms, not_grouped, is_grouped, same_found}
 use Rattle.query_names.specs.Joins.{joins_missing, joins_not_in_model}
 use Rattle.query_names.specs.Types.{type_clashes, type_clash, fits_type}
 use Rattle.query_names.specs.Faults.{fault_at, fault_from, fault_of, fault_of_names, fault_of_model, fault_of_types}
@@ -154,14 +158,18 @@ same_found_is (Some a) (Some b) e = ap Some (same_column_is a b e)
 
 -- ---- aggregates
 
-numeric : (cols : List ColDesc) (column : ℕ) (f own : MeasureForm) (of : Option ℕ) → form_number f < 4 → (form_number own == form_number f) ≡ true → is_of column of ≡ true
-    → cubes.IsMeasureOf cols own of → cubes.IsOfNumbers cols column
-numeric cols column f own None few e o h = absurd (never o)
-numeric cols column f form.Count (Some i) few e o h = absurd h
-numeric cols column f form.Sum (Some i) few e o h = subst (cubes.IsOfNumbers cols) (eqb-true i column o) h
-numeric cols column f form.Min (Some i) few e o h = subst (cubes.IsOfNumbers cols) (eqb-true i column o) h
-numeric cols column f form.Max (Some i) few e o h = subst (cubes.IsOfNumbers cols) (eqb-true i column o) h
-numeric cols column f form.Distinct (Some i) few e o h = let four = eqb-true 4 (form_number f) e in absurd (omega arith)
+-- a measure of numbers is of a column of numbers
+numeric : (cols : List ColDesc) (column : ℕ) (of : Option ℕ) → cubes.IsOfItems cols Numbers of → is_of column of ≡ true → cubes.IsOfNumbers cols column
+numeric cols column None h o = absurd h
+numeric cols column (Some i) h o = subst (cubes.IsOfNumbers cols) (eqb-true i column o) h
+
+-- one that gives a measure of numbers is itself of that form
+itself : (f own : MeasureForm) → item_kind f ≡ Numbers → (same_form f form.Known || same_form f own) ≡ true → item_kind own ≡ Numbers
+itself f own kind e = by (same_form f form.Known) refl e
+  where
+    by : (b : Bool) → same_form f form.Known ≡ b → (b || same_form f own) ≡ true → item_kind own ≡ Numbers
+    by true known e = let values : item_kind f ≡ Values = ap item_kind (same_form_is f form.Known known) in absurd (let no : Numbers ≡ Values = sym kind ∙ values in cc)
+    by false known e = ap item_kind (sym (same_form_is f own e)) ∙ kind
 
 has_numbers : (o : Option ColDesc) → (option_map (λ col. col.ty) o ≡ Some ty.Int) ⊎ (option_map (λ col. col.ty) o ≡ Some ty.Decimal) → HasNumbers (type_from o)
 has_numbers None h = tt
@@ -171,29 +179,31 @@ has_numbers (Some col) (inr e) = let is : col.ty ≡ ty.Decimal = cc in subst Ha
 abbrev IsSoundMeasure : Cube → MeasureDesc → Type 0
 IsSoundMeasure c m = cubes.IsMeasureOf (cubes.columns_at c.tables 0) m.form m.column
 
-measure_numbers : (c : Cube) → cubes.IsSound c → (f : MeasureForm) (w : WideCol) → form_number f < 4 → has_measure c f (Some w) ≡ true → HasNumbers (type_at c w)
-measure_numbers c s f w few e =
-    let parts = and_both (w.table == 0) (list_any (is_measure f w.column) c.measures) e in
+measure_numbers : (c : Cube) → cubes.IsSound c → (f : MeasureForm) (w : WideCol) → item_kind f ≡ Numbers → has_measure c f (Some w) ≡ true → HasNumbers (type_at c w)
+measure_numbers c s f w kind e =
+    let parts = and_both (w.table == 0) (list_any (gives f w.column) c.measures) e in
     let table = eqb-true w.table 0 parts.0 in
-    let found = Any-from_list_any (is_measure f w.column) c.measures parts.1 in
+    let found = Any-from_list_any (gives f w.column) c.measures parts.1 in
     let own : IsSoundMeasure c found.1 = subst (IsSoundMeasure c) found.3 (s.measures found.0 found.1 found.2) in
-    let tests = and_both (form_number found.1.form == form_number f) (is_of w.column found.1.column) found.4 in
-    let numbers = numeric (cubes.columns_at c.tables 0) w.column f found.1.form found.1.column few tests.0 tests.1 own in
+    let tests = and_both (same_form f form.Known || same_form f found.1.form) (is_of w.column found.1.column) found.4 in
+    let items = itself f found.1.form kind tests.0 in
+    let numbers = numeric (cubes.columns_at c.tables 0) w.column found.1.column (subst (λ (k : ItemKind). cubes.IsOfItems (cubes.columns_at c.tables 0) k found.1.column) items own) tests.1 in
     subst (λ t. HasNumbers (type_from (slice_get (columns_at c t) w.column))) (sym table) (has_numbers (slice_get (columns_at c 0) w.column) numbers)
 
 agg_sound : (c : Cube) → cubes.IsSound c → (w : AggWord) (column : Option WideCol) → is_kept c w column ≡ true → IsSoundAgg (agg_of c w column)
 agg_sound c s word.CountRows column e = inl refl
-agg_sound c s word.CountColumn column e = absurd (never e)
+agg_sound c s word.CountColumn None e = absurd (never e)
+agg_sound c s word.CountColumn (Some w) e = inr (refl, tt)
 agg_sound c s word.CountDistinct None e = absurd (never e)
 agg_sound c s word.CountDistinct (Some w) e = inr (refl, tt)
 agg_sound c s word.Sum None e = absurd (never e)
-agg_sound c s word.Sum (Some w) e = inr (refl, measure_numbers c s form.Sum w (omega arith) e)
+agg_sound c s word.Sum (Some w) e = inr (refl, measure_numbers c s form.Sum w refl e)
 agg_sound c s word.Min None e = absurd (never e)
-agg_sound c s word.Min (Some w) e = inr (refl, measure_numbers c s form.Min w (omega arith) e)
+agg_sound c s word.Min (Some w) e = inr (refl, measure_numbers c s form.Min w refl e)
 agg_sound c s word.Max None e = absurd (never e)
-agg_sound c s word.Max (Some w) e = inr (refl, measure_numbers c s form.Max w (omega arith) e)
+agg_sound c s word.Max (Some w) e = inr (refl, measure_numbers c s form.Max w refl e)
 agg_sound c s word.Avg None e = absurd (never e)
-agg_sound c s word.Avg (Some w) e = inr (refl, measure_numbers c s form.Sum w (omega arith) e)
+agg_sound c s word.Avg (Some w) e = inr (refl, measure_numbers c s form.Sum w refl e)
 
 given_sound : (c : Cube) (q : Query) → cubes.IsSound c → (t : SqlTerm) → no_measure c q t ≡ [] → Each IsSoundAgg (given_agg c q t)
 given_sound c q s (sql.Col r) e = tt

@@ -21,6 +21,7 @@ use Rattle.sql_reader.specs.declared.tree.Query.{Query}
 use Rattle.plain_answer.specs.declared.ask.Agg.{Agg}
 use Rattle.plain_answer.specs.declared.ask.AggKind.{AggKind}
 use Rattle.plain_answer.specs.declared.ask.AggKind.TheVariants as kind
+use Rattle.plain_answer.specs.Kinds.{kind_of_form, same_kind}
 use Rattle.plain_answer.specs.declared.ask.Ask.{Ask}
 use Rattle.plain_answer.specs.declared.ask.Out.{Out}
 use Rattle.plain_answer.specs.declared.ask.OrderKey.{OrderKey}
@@ -34,7 +35,7 @@ use Rattle.plain_answer.specs.declared.cond.Test.{Test}
 use Rattle.plain_answer.specs.declared.cond.Test.TheVariants as test
 use Rattle.query_names.specs.Parts.{key_term, of_group_terms}
 use Rattle.query_names.specs.Resolve.{column_type, dimension_count, dimension_of, same_column, type_found}
-use Rattle.query_names.specs.Uses.{measured}
+use Rattle.query_names.specs.Uses.{kept_as, measured}
 use Rattle.query_bind.specs.Titles.{name_of}
 
 -- ---- aggregates
@@ -47,14 +48,10 @@ abbrev pub measure_column : Cube → Option WideCol → Option ℕ
 measure_column c None = None
 measure_column c (Some w) = Some (measure_place c w)
 
+-- what an aggregate makes of rows: an average is kept as a sum, and each other kind as itself
 abbrev pub kind_of : AggWord → AggKind
-kind_of word.CountRows = kind.Count
-kind_of word.CountColumn = kind.Count
-kind_of word.CountDistinct = kind.Distinct
-kind_of word.Sum = kind.Sum
-kind_of word.Min = kind.Min
-kind_of word.Max = kind.Max
 kind_of word.Avg = kind.Avg
+kind_of w = kind_of_form (kept_as w)
 
 -- an aggregate of the column that is found
 abbrev pub agg_of : Cube → AggWord → Option WideCol → Agg
@@ -65,14 +62,6 @@ abbrev pub given_agg : Cube → Query → SqlTerm → List Agg
 given_agg c q (sql.Col r) = []
 given_agg c q (sql.Agg place w column) = agg_of c w (measured c q column) ∷ []
 
-abbrev pub kind_number : AggKind → ℕ
-kind_number kind.Count = 0
-kind_number kind.Sum = 1
-kind_number kind.Min = 2
-kind_number kind.Max = 3
-kind_number kind.Distinct = 4
-kind_number kind.Avg = 5
-
 abbrev pub same_number : Option ℕ → Option ℕ → Bool
 same_number None None = true
 same_number None (Some b) = false
@@ -81,7 +70,7 @@ same_number (Some a) (Some b) = a == b
 
 -- two aggregates are one where they are of one kind and one column
 abbrev pub same_agg : Agg → Agg → Bool
-same_agg a b = (kind_number a.kind == kind_number b.kind) && same_number a.column b.column
+same_agg a b = same_kind a.kind b.kind && same_number a.column b.column
 
 abbrev pub with_agg : List Agg → Agg → List Agg
 with_agg aggs agg = if list_any (same_agg agg) aggs then aggs else aggs ++ agg ∷ []

@@ -6,12 +6,12 @@ ghost use Rattle.std.specs.List.{flat_map, list_any, position};
 ghost use Rattle.query_names.specs.Parts.{cond_terms, of_cond, of_group_terms, key_term};
 ghost use Rattle.query_names.specs.Resolve.{dimension_count, same_column, type_found};
 ghost use Rattle.query_names.specs.Uses.{measured};
-ghost use Rattle.query_bind.specs.Asks.{measure_place, measure_column, kind_of, agg_of, given_agg, kind_number, same_number, same_agg, with_agg, aggs_of, agg_number};
+ghost use Rattle.query_bind.specs.Asks.{measure_place, measure_column, kind_of, agg_of, given_agg, same_number, same_agg, with_agg, aggs_of, agg_number};
 
 use cube_desc::CubeParts;
 use cube_val::{ColType, WideCol};
 use plain_answer::{Agg, AggKind};
-use query_names::{Scope, key_term};
+use query_names::{Scope, kept_as, key_term};
 use sql_reader::{AggWord, ColRef, Item, SqlCond, SqlKey, SqlTerm};
 use std::alloc::{AllocError, Global};
 
@@ -19,13 +19,13 @@ fn kind_of(word: AggWord) -> AggKind
     ensures { result ≡ kind_of word }
 {
     match word {
-        AggWord::CountRows => AggKind::Count,
-        AggWord::CountColumn => AggKind::Count,
-        AggWord::CountDistinct => AggKind::Distinct,
-        AggWord::Sum => AggKind::Sum,
-        AggWord::Min => AggKind::Min,
-        AggWord::Max => AggKind::Max,
         AggWord::Avg => AggKind::Avg,
+        AggWord::CountRows
+        | AggWord::CountColumn
+        | AggWord::CountDistinct
+        | AggWord::Sum
+        | AggWord::Min
+        | AggWord::Max => AggKind::of_form(kept_as(word)),
     }
 }
 
@@ -100,12 +100,6 @@ fn agg_of(scope: &Scope<'_>, word: AggWord, column: &Option<ColRef>) -> Agg
     }
 }
 
-fn same_kind(a: AggKind, b: AggKind) -> bool
-    ensures { result ≡ (kind_number a == kind_number b) }
-{
-    a == b
-}
-
 fn same_number(a: Option<usize>, b: Option<usize>) -> bool
     ensures { result ≡ same_number a b }
 {
@@ -119,7 +113,7 @@ fn same_number(a: Option<usize>, b: Option<usize>) -> bool
 fn same_agg(a: &Agg, b: &Agg) -> bool
     ensures { result ≡ same_agg a.now b.now }
 {
-    same_kind(a.kind, b.kind) && same_number(a.column, b.column)
+    a.kind.same_kind(b.kind) && same_number(a.column, b.column)
 }
 
 fn contains(aggs: &[Agg], agg: &Agg) -> bool

@@ -1,3 +1,4 @@
+pub mod AskedFacts
 pub mod CondLemmas
 pub mod KeyLemmas
 pub mod LeastLemmas

@@ -1,5 +1,6 @@
 pub mod Faults
 pub mod Joins
+pub mod Laws
 pub mod Least
 pub mod Names
 pub mod Parts

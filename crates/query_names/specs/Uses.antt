@@ -1,9 +1,10 @@
 -- What columns and aggregates are used for.
-use Rattle.std.specs.Prelude.{ℕ, List, [], ◌∷◌, ◌++◌, Option, Some, None, is_some, Bool, true, false, ◌&&◌, ◌==◌}
+use Rattle.std.specs.Prelude.{ℕ, List, [], ◌∷◌, ◌++◌, Option, Some, None, is_some, Bool, false, ◌&&◌, ◌||◌, ◌==◌}
 use Rattle.std.specs.List.{flat_map, list_any}
 use Rattle.cube_val.specs.declared.form.WideCol.{WideCol}
 use Rattle.measure_laws.specs.declared.measure.MeasureForm.{MeasureForm}
 use Rattle.measure_laws.specs.declared.measure.MeasureForm.TheVariants as form
+use Rattle.measure_laws.specs.Kinds.{counts_rows, same_form}
 use Rattle.cube_desc.specs.Cube.{Cube}
 use Rattle.cube_desc.specs.Forms.{is_of}
 use Rattle.cube_desc.specs.declared.desc.MeasureDesc.{MeasureDesc}
@@ -40,34 +41,34 @@ not_dimensions c q =
 
 -- ---- measures
 
-abbrev pub form_number : MeasureForm → ℕ
-form_number form.Count = 0
-form_number form.Sum = 1
-form_number form.Min = 2
-form_number form.Max = 3
-form_number form.Distinct = 4
+-- the form in which a cube keeps what an aggregate is worked out of; an average is worked out of its sum, and of the count of
+-- known values that is kept of every measured column
+abbrev pub kept_as : AggWord → MeasureForm
+kept_as word.CountRows = form.Count
+kept_as word.CountColumn = form.Known
+kept_as word.CountDistinct = form.Distinct
+kept_as word.Sum = form.Sum
+kept_as word.Min = form.Min
+kept_as word.Max = form.Max
+kept_as word.Avg = form.Sum
 
-abbrev pub is_measure : MeasureForm → ℕ → MeasureDesc → Bool
-is_measure f column m = (form_number m.form == form_number f) && is_of column m.column
+-- for a measure of the descriptor a cube keeps one of this form of the column: that measure, or the count of known values
+abbrev pub gives : MeasureForm → ℕ → MeasureDesc → Bool
+gives f column m = (same_form f form.Known || same_form f m.form) && is_of column m.column
 
 -- the cube keeps a measure of this form of the column, which has to be the fact table's
 abbrev pub has_measure : Cube → MeasureForm → Option WideCol → Bool
 has_measure c f None = false
-has_measure c f (Some w) = (w.table == 0) && list_any (is_measure f w.column) c.measures
+has_measure c f (Some w) = (w.table == 0) && list_any (gives f w.column) c.measures
 
 abbrev pub measured : Cube → Query → Option ColRef → Option WideCol
 measured c q None = None
 measured c q (Some r) = found c q r
 
--- the cube keeps what the aggregate is worked out of: the count of rows always, for AVG the sum, the count of a column never
+-- the cube keeps what the aggregate is worked out of: the count of rows always, and the count of a column's known values where
+-- a measure is of the column
 abbrev pub is_kept : Cube → AggWord → Option WideCol → Bool
-is_kept c word.CountRows column = true
-is_kept c word.CountColumn column = false
-is_kept c word.CountDistinct column = has_measure c form.Distinct column
-is_kept c word.Sum column = has_measure c form.Sum column
-is_kept c word.Min column = has_measure c form.Min column
-is_kept c word.Max column = has_measure c form.Max column
-is_kept c word.Avg column = has_measure c form.Sum column
+is_kept c w column = counts_rows (kept_as w) || has_measure c (kept_as w) column
 
 abbrev pub no_measure : Cube → Query → SqlTerm → List ℕ
 no_measure c q (Col r) = []

@@ -12,17 +12,20 @@
 //! - It takes no memory: a check goes over the query and keeps one place.
 //!
 //! The modules: `scope` (what names stand for), `check` (checks of the parts of a query), `names`, `uses`,
-//! `joins`, `types` (the checks), `fault` (their order).
+//! `joins`, `types` (the checks), `fault` (their order), `laws` (what a query may ask is kept).
 #![tactic(auto)]
 
 mod check;
 mod fault;
 mod joins;
+mod laws;
 mod names;
 mod scope;
 mod types;
 mod uses;
 
 pub use fault::first_fault;
+pub use laws::what_is_asked_is_kept;
 pub use query_faults::{BindFault, BindKind};
 pub use scope::{Scope, key_term};
+pub use uses::kept_as;

@@ -7,7 +7,7 @@ ghost use Rattle.cube_desc.specs.Forms as forms;
 ghost use Rattle.query_names.specs.Least.{lesser, least, unless};
 ghost use Rattle.query_names.specs.Parts.{of_cond, of_group_terms};
 ghost use Rattle.query_names.specs.Resolve.{found};
-ghost use Rattle.query_names.specs.Uses.{not_dimension, row_not_dimension, group_not_dimension, not_dimensions, form_number, is_measure, has_measure, measured, is_kept, no_measure, no_measures, same_found, is_grouped, not_grouped, not_grouped_terms};
+ghost use Rattle.query_names.specs.Uses.{not_dimension, row_not_dimension, group_not_dimension, not_dimensions, gives, has_measure, kept_as, measured, is_kept, no_measure, no_measures, same_found, is_grouped, not_grouped, not_grouped_terms};
 
 use crate::check::{
     Check, least_in, least_in_cond, least_of_group_terms, lesser, place_of, place_unless,
@@ -78,15 +78,18 @@ pub(crate) fn not_dimension_place(scope: &Scope<'_>) -> Option<u32>
 
 // ---- measures
 
-fn form_number(form: MeasureForm) -> u8
-    ensures { result ≡ form_number form }
+/// The form in which a cube keeps what an aggregate is worked out of. An average is worked out of the sum, and of the count of
+/// known values, which is kept of every column that a measure is of.
+pub fn kept_as(word: AggWord) -> MeasureForm
+    ensures { result ≡ kept_as word }
 {
-    match form {
-        MeasureForm::Count => 0,
-        MeasureForm::Sum => 1,
-        MeasureForm::Min => 2,
-        MeasureForm::Max => 3,
-        MeasureForm::Distinct => 4,
+    match word {
+        AggWord::CountRows => MeasureForm::Count,
+        AggWord::CountColumn => MeasureForm::Known,
+        AggWord::CountDistinct => MeasureForm::Distinct,
+        AggWord::Sum | AggWord::Avg => MeasureForm::Sum,
+        AggWord::Min => MeasureForm::Min,
+        AggWord::Max => MeasureForm::Max,
     }
 }
 
@@ -99,16 +102,17 @@ fn is_of(column: usize, own: Option<usize>) -> bool
     }
 }
 
-fn is_measure(form: MeasureForm, column: usize, measure: &MeasureDesc) -> bool
-    ensures { result ≡ is_measure form column measure.now }
+fn gives(form: MeasureForm, column: usize, measure: &MeasureDesc) -> bool
+    ensures { result ≡ gives form column measure.now }
 {
-    form_number(measure.form) == form_number(form) && is_of(column, measure.column)
+    let known = form.same_form(MeasureForm::Known);
+    (known || form.same_form(measure.form)) && is_of(column, measure.column)
 }
 
-fn is_measured(measures: &[MeasureDesc], form: MeasureForm, column: usize) -> bool
-    ensures { result ≡ list_any (is_measure form column) measures.now }
+fn is_given(measures: &[MeasureDesc], form: MeasureForm, column: usize) -> bool
+    ensures { result ≡ list_any (gives form column) measures.now }
 {
-    measures.iter().any(|m| is_measure(form, column, m))
+    measures.iter().any(|m| gives(form, column, m))
 }
 
 fn has_measure(parts: &CubeParts, form: MeasureForm, column: Option<WideCol>) -> bool
@@ -116,7 +120,7 @@ fn has_measure(parts: &CubeParts, form: MeasureForm, column: Option<WideCol>) ->
 {
     match column {
         Some(found) => {
-            found.table == 0 && is_measured(parts.measures.as_slice(), form, found.column)
+            found.table == 0 && is_given(parts.measures.as_slice(), form, found.column)
         }
         None => false,
     }
@@ -125,15 +129,8 @@ fn has_measure(parts: &CubeParts, form: MeasureForm, column: Option<WideCol>) ->
 fn is_kept(parts: &CubeParts, word: AggWord, column: Option<WideCol>) -> bool
     ensures { result ≡ is_kept parts.now word column }
 {
-    match word {
-        AggWord::CountRows => true,
-        AggWord::CountColumn => false,
-        AggWord::CountDistinct => has_measure(parts, MeasureForm::Distinct, column),
-        AggWord::Sum => has_measure(parts, MeasureForm::Sum, column),
-        AggWord::Min => has_measure(parts, MeasureForm::Min, column),
-        AggWord::Max => has_measure(parts, MeasureForm::Max, column),
-        AggWord::Avg => has_measure(parts, MeasureForm::Sum, column),
-    }
+    let form = kept_as(word);
+    form.counts_rows() || has_measure(parts, form, column)
 }
 
 fn measured(scope: &Scope<'_>, column: &Option<ColRef>) -> Option<WideCol>

@@ -4,16 +4,17 @@ ghost use Rattle.std.specs.Prelude.{◌≡◌, ◌<◌, ◌&&◌, IfOk, length, 
 ghost use Rattle.byte_frame.specs.Outcomes.{Gives};
 ghost use Rattle.cuboid_tree.specs.Tree.{SpansTree, is_child, is_of_layer};
 ghost use Rattle.cube_fields.specs.Reading.{tables_at};
-ghost use Rattle.step_codec.specs.Layouts.{cell_form, is_above_layer, is_in_layer, layer_masks, parent_masks, table_form};
+ghost use Rattle.step_codec.specs.Layouts.{field_of, fields_of, is_above_layer, is_in_layer, layer_masks, parent_masks, sizes_after, table_form};
 ghost use Rattle.step_codec.specs.Reading.{layer_at, size_at};
 
-use crate::layout::{DictColumn, KeptForm, Layout};
+use crate::layout::{DictColumn, Layout};
 use agg_group::Mask;
 use byte_frame::{FieldReader, ReadError, Reads, read_counted};
 use cell_store::CellTable;
-use cube_fields::{CellForm, CellTableForm, read_tables};
+use cube_fields::{CellField, CellTableForm, read_tables};
 use cube_val::{Items, ROW_LIMIT};
 use cuboid_tree::SpanTree;
+use measure_laws::{ItemKind, MeasureForm};
 use std::alloc::{AllocError, Global};
 
 /// The most values of a dictionary of several snapshots together.
@@ -52,31 +53,45 @@ fn size_of(sizes: &[u32], place: usize) -> u32
     }
 }
 
-// The form of a cell.
-fn cell_form(sizes: &[u32], form: &KeptForm) -> CellForm
-    ensures { result ≡ cell_form sizes.now form.now }
+// The cell of a measure, where the dictionaries that come next have these sizes.
+fn field_of(sizes: &[u32], form: MeasureForm) -> CellField
+    ensures { result ≡ field_of sizes.now form }
 {
-    match form {
-        KeptForm::Sum => CellForm::Sum,
-        KeptForm::Min => CellForm::Min,
-        KeptForm::Max => CellForm::Max,
-        KeptForm::Distinct(dict) => CellForm::Distinct(size_of(sizes, *dict)),
+    let size = match form.item_kind() {
+        ItemKind::Rows | ItemKind::Values | ItemKind::Numbers => 0,
+        ItemKind::Ids => size_of(sizes, 0),
+    };
+    CellField { form, size }
+}
+
+// The sizes of the dictionaries behind that of a measure.
+fn sizes_after(sizes: &[u32], kind: ItemKind) -> &[u32]
+    ensures { result.now ≡ sizes_after kind sizes.now }
+{
+    match kind {
+        ItemKind::Rows | ItemKind::Values | ItemKind::Numbers => sizes,
+        ItemKind::Ids => match sizes {
+            [] => sizes,
+            [_, rest @ ..] => rest,
+        },
     }
 }
 
-// The forms of the cells behind the count.
-fn cell_forms(
+// The cells of measures, where the dictionaries of those that have one have these sizes.
+fn fields_of(
     alloc: Global,
-    measures: &[KeptForm],
+    measures: &[MeasureForm],
     sizes: &[u32],
-) -> Result<Vec<CellForm>, AllocError>
-    ensures { IfOk result (λ cells. cells.items ≡ map (cell_form sizes.now) measures.now) }
+) -> Result<Vec<CellField>, AllocError>
+    ensures { IfOk result (λ fields. fields.items ≡ fields_of sizes.now measures.now) }
 {
-    let mut cells = Vec::new(alloc);
+    let mut fields = Vec::new(alloc);
+    let mut left = sizes;
     for form in measures {
-        cells.push(cell_form(sizes, form))?;
+        fields.push(field_of(left, *form))?;
+        left = sizes_after(left, form.item_kind());
     }
-    Ok(cells)
+    Ok(fields)
 }
 
 /// The form of the cell tables of one snapshot, whose dictionaries have these sizes.
@@ -87,8 +102,8 @@ pub fn table_form(
 ) -> Result<CellTableForm, AllocError>
     ensures { IfOk result (λ form. form ≡ table_form layout.now sizes.now 1) }
 {
-    let (keys, _) = sizes.split_at(layout.dims.min(sizes.len()));
-    let cells = cell_forms(alloc, layout.measures.as_slice(), sizes)?;
+    let (keys, others) = sizes.split_at(layout.dims.min(sizes.len()));
+    let cells = fields_of(alloc, layout.measures.as_slice(), others)?;
     Ok(CellTableForm {
         sizes: Items::from_slice(alloc, keys)?,
         cells: Items::of(cells),

@@ -6,6 +6,7 @@ ghost use Rattle.step_codec.specs.Tables.{IsTableShape};
 use agg_group::Mask;
 use cube_fields::Extremes;
 use cube_val::Items;
+use measure_laws::MeasureForm;
 use std::marker::Model;
 use step_fields::Column;
 
@@ -60,19 +61,6 @@ pub struct DictColumn {
     pub place: usize,
 }
 
-/// The form of a measure that is kept beside the count.
-#[derive(Clone, Copy, Drop)]
-pub enum KeptForm {
-    /// A sum.
-    Sum,
-    /// A least value.
-    Min,
-    /// A greatest value.
-    Max,
-    /// Different values, with the number of their dictionary.
-    Distinct(usize),
-}
-
 /// What the step files of a cube are read by.
 #[derive(Drop)]
 pub struct Layout {
@@ -84,8 +72,8 @@ pub struct Layout {
     pub dicts: Items<DictColumn>,
     /// How many dimensions there are.
     pub dims: usize,
-    /// The measures that are kept beside the count.
-    pub measures: Items<KeptForm>,
+    /// The forms of the measures that are kept behind the count of rows.
+    pub measures: Items<MeasureForm>,
     /// The least and the greatest values of one column, by the places of their cells.
     pub extremes: Items<Extremes>,
     /// The masks of the cuboids, rising; the last is the base.

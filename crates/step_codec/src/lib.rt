@@ -25,6 +25,6 @@ mod seal;
 pub use dicts::read_holding;
 pub use laws::bodies_are_exact;
 pub use layers::{LayerWork, SIZE_LIMIT, layer_masks, parent_masks, read_layer, table_form};
-pub use layout::{DictColumn, KeptForm, Layout, TableColumns};
+pub use layout::{DictColumn, Layout, TableColumns};
 pub use loaded::{ROW_LIMIT, put_loaded, read_loaded};
 pub use seal::{CuboidRows, DoneStep, SealBody, put_seal, read_seal};

@@ -1,5 +1,5 @@
 -- The base cuboid of a cube's flat rows, from those of the pieces of its parts.
-use Rattle.std.proofs.Common.{◌≡◌, ◌∙◌, ◌++◌, List, Ok, Err, OnOk, Result, ap, cond, subst, sym}
+use Rattle.std.proofs.Common.{◌≡◌, ◌++◌, List, Ok, Err, OnOk, Result, cond, subst, sym}
 use Rattle.std.specs.Prelude.{is_ok}
 use Rattle.cell_store.specs.Cells.{CellRows}
 use Rattle.cube_desc.specs.Cube.{Cube}

@@ -1,39 +1,35 @@
 -- The dictionaries and the aggregates of a cube.
-use Rattle.std.proofs.Common.{◌≡◌, ◌+◌, ◌∷◌, [], cond, List, arith, length, length-append, refl}
-use Rattle.std.specs.Prelude.{filter, map, not}
+use Rattle.std.proofs.Common.{◌≡◌, ◌+◌, ◌∙◌, ◌∷◌, [], ℕ, cond, List, Some, None, ap, arith, length, length-append, map, refl}
 use Rattle.std.specs.List.{cons_option, filter_map, range_with_len}
 use Rattle.std.proofs.lemmas.List.FromFn.{length-range_with_len}
 use Rattle.cube_desc.specs.Cube.{Cube}
-use Rattle.cube_desc.specs.declared.desc.MeasureDesc.{MeasureDesc}
+use Rattle.cube_desc.specs.FlatRow.{place_of}
+use Rattle.cube_desc.specs.Kept.{dict_place, dict_places, distinct_places, kept_behind}
+use Rattle.cube_desc.specs.declared.kept.Kept.{Kept}
 use Rattle.layer_builder.specs.Base.{count_of_distincts}
+use Rattle.measure_laws.specs.declared.kinds.ItemKind.{ItemKind}
+use Rattle.measure_laws.specs.declared.kinds.ItemKind.TheVariants.{Rows, Values, Numbers, Ids}
 use Rattle.measure_laws.specs.declared.measure.MeasureForm.{MeasureForm}
-use Rattle.measure_laws.specs.declared.measure.MeasureForm.TheVariants as form
-use Rattle.plain_answer.specs.declared.ask.Agg.{Agg}
-use Rattle.cube_desc.specs.FlatRow.{dict_places, distinct_by, distinct_place, distinct_places, is_count, place_of}
+use Rattle.measure_laws.specs.Kinds.{are_ids, dict_after, item_kind, place_after}
+use Rattle.plain_answer.proofs.KindFacts.{kept_form}
 use Rattle.step_compute.specs.Columns.{agg_of, kept_aggs}
 
-abbrev kept : Cube → List MeasureDesc → List Agg
-kept c ms = map (agg_of c) (filter (λ m. not (is_count m.form)) ms)
+-- a measure of ids has a dictionary, and no other measure has one
+one_more : (k : ItemKind) (place : ℕ) (places : List ℕ) → place_after k (length places) ≡ length (cons_option (cond (are_ids k) (Some place) None) places)
+one_more Rows place places = refl
+one_more Values place places = refl
+one_more Numbers place places = refl
+one_more Ids place places = omega arith
 
--- a COUNT_DISTINCT has a dictionary, and no other measure has one
-one_more : (c : Cube) (m : MeasureDesc) (ms : List MeasureDesc) → count_of_distincts (kept c ms) ≡ length (filter_map (distinct_place c) ms)
-    → count_of_distincts (kept c (m ∷ ms)) ≡ length (filter_map (distinct_place c) (m ∷ ms))
-one_more c m ms h = by m.form h where
-  by : (f : MeasureForm) → count_of_distincts (kept c ms) ≡ length (filter_map (distinct_place c) ms)
-      → count_of_distincts (map (agg_of c) (cond (not (is_count f)) (record m { form = f } ∷ filter (λ m. not (is_count m.form)) ms) (filter (λ m. not (is_count m.form)) ms)))
-      ≡ length (cons_option (distinct_by (place_of c m.column) f) (filter_map (distinct_place c) ms))
-  by form.Count h = h
-  by form.Sum h = h
-  by form.Min h = h
-  by form.Max h = h
-  by form.Distinct h = omega (arith, h)
-
-distincts_counted : (c : Cube) (ms : List MeasureDesc) → count_of_distincts (kept c ms) ≡ length (filter_map (distinct_place c) ms)
+distincts_counted : (c : Cube) (ks : List Kept) → count_of_distincts (map (agg_of c) ks) ≡ length (filter_map (dict_place c) ks)
 distincts_counted c [] = refl
-distincts_counted c (m ∷ ms) = one_more c m ms (distincts_counted c ms)
+distincts_counted c (k ∷ ks) =
+    ap (λ (f : MeasureForm). dict_after f (count_of_distincts (map (agg_of c) ks))) (kept_form k.form)
+    ∙ ap (dict_after k.form) (distincts_counted c ks)
+    ∙ one_more (item_kind k.form) (place_of c k.column) (filter_map (dict_place c) ks)
 
 -- as many dictionaries as rowkey columns and COUNT_DISTINCTs
 pub places_counted : (c : Cube) → length (dict_places c) ≡ length c.rowkey + count_of_distincts (kept_aggs c)
-unfolding distinct_places kept_aggs
+unfolding distinct_places
 places_counted c =
-    omega (arith, length-append (range_with_len 0 (length c.rowkey)) (filter_map (distinct_place c) c.measures), length-range_with_len 0 (length c.rowkey), distincts_counted c c.measures)
+    omega (arith, length-append (range_with_len 0 (length c.rowkey)) (filter_map (dict_place c) (kept_behind c)), length-range_with_len 0 (length c.rowkey), distincts_counted c (kept_behind c))

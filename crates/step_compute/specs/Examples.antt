@@ -1,9 +1,9 @@
 -- A cube of sales by day, region and category, and the sales of a month.
 use Rattle.std.specs.Prelude.{ℕ, ℤ, List, [], ◌∷◌, Option, Some, None, codes, map, option_to_list, pos}
 use Rattle.agg_group.specs.declared.mask.Mask.{Mask}
-use Rattle.cell_store.specs.Cells.{CellRows}
+use Rattle.cell_store.specs.Cells.{CellRows, items_of}
 use Rattle.cell_store.specs.declared.cell.Cell.{Cell}
-use Rattle.cell_store.specs.declared.cell.Cell.TheVariants.{Count, Sum, Min, Max, Distinct}
+use Rattle.cell_store.specs.declared.cell.Cell.TheVariants.{Sum, Min, Max, Distinct}
 use Rattle.cube_desc.specs.Cube.{Cube}
 use Rattle.cube_desc.specs.declared.desc.MeasureDesc.{MeasureDesc}
 use Rattle.cube_val.specs.declared.form.ColDesc.{ColDesc}
@@ -78,12 +78,13 @@ january_dicts =
 
 -- ---- cuboids
 
+-- the sum, the extreme or the numbers that a cell has; of every other how many items it is of
 abbrev pub cell_numbers : Cell → List ℤ
-cell_numbers (Count n) = pos n ∷ []
 cell_numbers (Sum s) = s.total ∷ []
 cell_numbers (Min m) = option_to_list m.value
 cell_numbers (Max m) = option_to_list m.value
 cell_numbers (Distinct d) = map pos d.ids
+cell_numbers c = pos (items_of c) ∷ []
 
 -- the mask, and for each row its key and the numbers of its cells
 abbrev pub numbers : CellRows → ℕ × List (List ℕ × List (List ℤ))
@@ -95,9 +96,10 @@ january_base = base_value sales_cube january_rows january_dicts
 abbrev pub january_pairs : List CellRows
 january_pairs = layer_value sales_cube.masks 2 (january_base ∷ [])
 
--- the cells of the two sales in Europe, and of the one in America
+-- the cells of the two sales in Europe, and of the one in America: how many there are, how many prices and sellers are known, the
+-- sum, the least and the greatest of the prices, and the sellers
 abbrev pub of_europe : List (List ℤ)
-of_europe = (pos 2 ∷ []) ∷ (pos 155_000 ∷ []) ∷ (pos 55_000 ∷ []) ∷ (pos 100_000 ∷ []) ∷ (pos 0 ∷ pos 1 ∷ []) ∷ []
+of_europe = (pos 2 ∷ []) ∷ (pos 2 ∷ []) ∷ (pos 2 ∷ []) ∷ (pos 155_000 ∷ []) ∷ (pos 55_000 ∷ []) ∷ (pos 100_000 ∷ []) ∷ (pos 0 ∷ pos 1 ∷ []) ∷ []
 
 abbrev pub of_america : List (List ℤ)
-of_america = (pos 1 ∷ []) ∷ (pos 10_000 ∷ []) ∷ (pos 10_000 ∷ []) ∷ (pos 10_000 ∷ []) ∷ (pos 0 ∷ []) ∷ []
+of_america = (pos 1 ∷ []) ∷ (pos 1 ∷ []) ∷ (pos 1 ∷ []) ∷ (pos 10_000 ∷ []) ∷ (pos 10_000 ∷ []) ∷ (pos 10_000 ∷ []) ∷ (pos 0 ∷ []) ∷ []

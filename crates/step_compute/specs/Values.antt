@@ -1,7 +1,7 @@
 -- What each step of a job makes of a cube and of what it works on. The flat step makes the flat rows (`flat_of` of `flat_join`), and the seal step
 -- gives its own list again.
-use Rattle.std.specs.Prelude.{ℕ, ◌==◌, ◌&&◌, Bool, IsTrue, List, [], filter, is_some, map, slice_index_or, unwrap_or}
-use Rattle.std.specs.List.{list_all, list_any, position_or_len}
+use Rattle.std.specs.Prelude.{ℕ, ◌==◌, ◌&&◌, ◌++◌, Bool, IsTrue, List, [], Some, filter, is_some, length, map, slice_index_or, unwrap_or}
+use Rattle.std.specs.List.{list_all, list_any, position_or_len, range_with_len}
 use Rattle.agg_group.specs.declared.mask.Mask.{Mask}
 use Rattle.agg_group.specs.Mask.{mask_at}
 use Rattle.cell_gather.specs.Gathers.{gathered}
@@ -11,9 +11,10 @@ use Rattle.cube_desc.specs.Cube.{Cube}
 use Rattle.cube_val.specs.declared.val.Val.{Val}
 use Rattle.cuboid_tree.specs.Tree.{is_of_layer, parent_of, places}
 use Rattle.dim_dictionary.specs.Dictionaries.{dictionary_of}
-use Rattle.layer_builder.specs.Base.{base_mask, base_rows, form_of_kind, key_width}
-use Rattle.plain_answer.specs.Aggregates.{cell}
-use Rattle.cube_desc.specs.FlatRow.{dict_places}
+use Rattle.layer_builder.specs.Base.{base_mask, base_rows, key_width}
+use Rattle.plain_answer.specs.Kinds.{form_of_kind}
+use Rattle.plain_answer.specs.Aggregates.{cell, known_values}
+use Rattle.cube_desc.specs.Kept.{distinct_places}
 use Rattle.step_compute.specs.Columns.{kept_aggs}
 
 -- ---- dictionaries
@@ -22,9 +23,15 @@ use Rattle.step_compute.specs.Columns.{kept_aggs}
 abbrev pub values_in : List (List Val) → ℕ → List Val
 values_in rows place = map (λ row. cell row place) rows
 
--- the sorted distinct values of each rowkey column, and then of each column whose different values are counted
+-- .. those that aren't null
+abbrev pub known_in : List (List Val) → ℕ → List Val
+known_in rows place = known_values (Some place) rows
+
+-- the sorted distinct values of each rowkey column, null among them, and then of each column whose different values are counted,
+-- without null
 abbrev pub dict_value : Cube → List (List Val) → List (List Val)
-dict_value c flat = map (λ place. dictionary_of (values_in flat place)) (dict_places c)
+dict_value c flat =
+    map (λ place. dictionary_of (values_in flat place)) (range_with_len 0 (length c.rowkey)) ++ map (λ place. dictionary_of (known_in flat place)) (distinct_places c)
 
 -- ---- the base cuboid
 

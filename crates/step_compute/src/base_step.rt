@@ -2,7 +2,7 @@
 
 ghost use Rattle.std.specs.Prelude.{◌≡◌, ◌≤◌, ◌<◌, ◌+◌, ◌++◌, IfOk, IsErrOf, List, OnOk, length};
 ghost use Rattle.measure_laws.specs.Measures.{most_items};
-ghost use Rattle.cube_desc.specs.FlatRow.{dict_places};
+ghost use Rattle.cube_desc.specs.Kept.{dict_places};
 ghost use Rattle.cube_val.specs.declared.val.Val.{Val};
 ghost use Rattle.layer_builder.specs.Base.{IsBase, count_of_distincts};
 ghost use Rattle.layer_builder.specs.Pieces.{AreBases};

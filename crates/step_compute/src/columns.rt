@@ -2,26 +2,14 @@
 
 ghost use Rattle.std.specs.Prelude.{◌≡◌, IfOk};
 ghost use Rattle.cube_desc.specs.Sound.{IsSound};
-ghost use Rattle.step_compute.specs.Columns.{agg_of, kept_aggs, kind_of, type_of};
+ghost use Rattle.step_compute.specs.Columns.{agg_of, kept_aggs, type_of};
 
-use cube_desc::flat_row::{is_count, place_of};
-use cube_desc::{CubeParts, MeasureDesc};
+use cube_desc::CubeParts;
+use cube_desc::flat_row::place_of;
+use cube_desc::kept::{Kept, kept_behind};
 use cube_val::ColType;
-use measure_laws::MeasureForm;
 use plain_answer::{Agg, AggKind};
 use std::alloc::{AllocError, Global};
-
-fn kind_of(form: MeasureForm) -> AggKind
-    ensures { result ≡ kind_of form }
-{
-    match form {
-        MeasureForm::Count => AggKind::Count,
-        MeasureForm::Sum => AggKind::Sum,
-        MeasureForm::Min => AggKind::Min,
-        MeasureForm::Max => AggKind::Max,
-        MeasureForm::Distinct => AggKind::Distinct,
-    }
-}
 
 // The type of the fact table's column that a measure is of.
 fn type_of(cube: &CubeParts, column: Option<usize>) -> ColType
@@ -40,33 +28,31 @@ fn type_of(cube: &CubeParts, column: Option<usize>) -> ColType
 }
 
 // What a measure makes of flat rows.
-fn agg_of(cube: &CubeParts, measure: &MeasureDesc) -> Agg
+fn agg_of(cube: &CubeParts, measure: Kept) -> Agg
     requires { IsSound cube.now }
-    ensures { result ≡ agg_of cube.now measure.now }
+    ensures { result ≡ agg_of cube.now measure }
 {
     Agg {
-        kind: kind_of(measure.form),
+        kind: AggKind::of_form(measure.form),
         column: Some(place_of(cube, measure.column)),
         ty: type_of(cube, measure.column),
     }
 }
 
 /// The aggregates that cuboids keep: the count of rows, and then the other measures.
-#[tactic(auto, unfolding(crate::specs::Columns::kept_aggs))]
 pub(crate) fn kept_aggs(alloc: Global, cube: &CubeParts) -> Result<Vec<Agg>, AllocError>
     requires { IsSound cube.now }
     ensures { IfOk result (λ v. v.items ≡ kept_aggs cube.now) }
 {
+    let kept = kept_behind(alloc, cube)?;
     let mut aggs = Vec::new(alloc);
     aggs.push(Agg {
         kind: AggKind::Count,
         column: None,
         ty: ColType::Int,
     })?;
-    for measure in cube.measures.as_slice() {
-        if !is_count(measure.form) {
-            aggs.push(agg_of(cube, measure))?;
-        }
+    for measure in kept.as_slice() {
+        aggs.push(agg_of(cube, *measure))?;
     }
     Ok(aggs)
 }

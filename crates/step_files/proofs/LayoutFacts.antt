@@ -1,7 +1,7 @@
 -- The layout of a cube that bytes describe.
-use Rattle.std.proofs.Common.{◌≡◌, ◌≤◌, ◌<◌, ◌^◌, ◌++◌, ℕ, true, List, [], ◌∷◌, length, Option, Some, None, refl, sym, ap, subst, arith, length-append}
+use Rattle.std.proofs.Common.{◌≡◌, ◌≤◌, ◌<◌, ◌^◌, ℕ, true, List, [], ◌∷◌, length, Option, Some, None, refl, sym, ap, subst, arith, length-append}
 use Rattle.std.specs.Prelude.{is_some, map}
-use Rattle.std.specs.List.{AllByRecursion, cons_option, filter_map, range_with_len}
+use Rattle.std.specs.List.{AllByRecursion, range_with_len}
 use Rattle.std.proofs.Math.Nat.{pow-le-pow_right}
 use Rattle.std.proofs.lemmas.List.{length-map}
 use Rattle.std.proofs.lemmas.List.FromFn.{length-range_with_len}
@@ -13,11 +13,11 @@ use Rattle.cuboid_tree.specs.Tree.{SpansTree}
 use Rattle.cube_desc.specs.Cube.{Cube}
 use Rattle.cube_desc.specs.Meaning.{desc_of}
 use Rattle.cube_desc.specs.Sound.{IsSound}
-use Rattle.cube_desc.specs.declared.desc.MeasureDesc.{MeasureDesc}
 use Rattle.cube_desc.proofs.SoundFacts.{sound}
 use Rattle.step_codec.specs.Layouts.{IsLayout}
 use Rattle.step_codec.specs.declared.layout.Layout.{Layout}
-use Rattle.cube_desc.specs.FlatRow.{dict_places, distinct_place, distinct_places}
+use Rattle.cube_desc.specs.Kept.{dict_places, distinct_places}
+use Rattle.cube_desc.proofs.KeptFacts.{few_distinct}
 use Rattle.step_files.specs.Cubes.{dict_column, flat_columns, layout_in, layout_of, layout_or}
 
 -- ---- masks
@@ -31,22 +31,14 @@ wider n m (k ∷ masks) le h = (omega (arith, le, h.0), wider n m masks le h.1)
 
 -- ---- dictionaries
 
-few_places : (c : Cube) (ms : List MeasureDesc) → length (filter_map (distinct_place c) ms) ≤ length ms
-few_places c [] = omega arith
-few_places c (m ∷ ms) = by (distinct_place c m) (few_places c ms) where
-  by : (o : Option ℕ) → length (filter_map (distinct_place c) ms) ≤ length ms → length (cons_option o (filter_map (distinct_place c) ms)) ≤ length (m ∷ ms)
-  by (Some p) h = omega (arith, h)
-  by None h = omega (arith, h)
-
 few_dicts : (c : Cube) → IsSound c → length (map (dict_column (flat_columns c)) (dict_places c)) < 2 ^ 32
-unfolding distinct_places
 few_dicts c s =
     omega (
       arith,
       length-map (dict_places c) (dict_column (flat_columns c)),
-      length-append (range_with_len 0 (length c.rowkey)) (filter_map (distinct_place c) c.measures),
+      length-append (range_with_len 0 (length c.rowkey)) (distinct_places c),
       length-range_with_len 0 (length c.rowkey),
-      few_places c c.measures,
+      few_distinct c,
       s.few_dimensions,
       s.few_measures,
     )

@@ -9,12 +9,12 @@ use Rattle.agg_group.specs.declared.mask.Mask.{Mask}
 use Rattle.byte_frame.specs.Spelling.{EachFits}
 use Rattle.cell_store.specs.Cells.{CellRows}
 use Rattle.cell_store.specs.declared.cell.Cell.{Cell}
-use Rattle.cell_store.specs.declared.cell.Cell.TheVariants.{Count, Sum, Min, Max, Distinct}
+use Rattle.cell_store.specs.declared.cell.Cell.TheVariants.{Count}
 use Rattle.cube_fields.specs.Cells.{FitsCell, FitsCells, FitsRow, FitsTable, IsShortCell, IsShortTable, count_in}
 use Rattle.cube_fields.specs.Dicts.{FitsDict}
-use Rattle.cube_fields.specs.declared.forms.CellForm.{CellForm}
-use Rattle.cube_fields.specs.declared.forms.CellForm.TheVariants as form
+use Rattle.cube_fields.specs.declared.forms.CellField.{CellField}
 use Rattle.cube_fields.specs.declared.forms.CellTableForm.{CellTableForm}
+use Rattle.cube_fields.proofs.CellFacts.{short_cell}
 use Rattle.cube_val.specs.declared.val.Val.{Val}
 use Rattle.range_list.specs.Ranges.{Interval}
 use Rattle.step_codec.specs.Bodies.{FitsHolding, FitsLayer, FitsLoaded}
@@ -45,26 +45,19 @@ each_length F (c ∷ cs) (x ∷ xs) h = ap suc (each_length F cs xs h.1)
 
 -- ---- cell tables
 
-short_cell : (n : ℕ) (f : CellForm) (c : Cell) → n < 2 ^ 32 → FitsCell n f c → IsShortCell c
-short_cell n (form.Distinct size) (Distinct d) few h = omega (arith, few, h.1.1.0)
-short_cell n form.Sum (Sum s) few h = tt
-short_cell n form.Min (Min m) few h = tt
-short_cell n form.Max (Max m) few h = tt
-short_cell n f c few h = absurd h
-
-short_each : (n : ℕ) (fs : List CellForm) (cells : List Cell) → n < 2 ^ 32 → EachFits (FitsCell n) fs cells → AllByRecursion IsShortCell cells
+short_each : (n : ℕ) (fs : List CellField) (cells : List Cell) → n < 2 ^ 32 → EachFits (FitsCell n) fs cells → AllByRecursion IsShortCell cells
 short_each n [] [] few h = tt
 short_each n [] (c ∷ cells) few h = absurd h
 short_each n (f ∷ fs) [] few h = absurd h
 short_each n (f ∷ fs) (c ∷ cells) few h = (short_cell n f c few h.0, short_each n fs cells few h.1)
 
-short_cells : (most : ℕ) (fs : List CellForm) (cells : List Cell) → most < 2 ^ 32 → FitsCells most fs cells → AllByRecursion IsShortCell cells
+short_cells : (most : ℕ) (fs : List CellField) (cells : List Cell) → most < 2 ^ 32 → FitsCells most fs cells → AllByRecursion IsShortCell cells
 short_cells most fs [] few h = absurd h
 short_cells most fs (Count n ∷ cells) few h = (tt, short_each n fs cells (omega (arith, few, h.0.1)) h.1)
 short_cells most fs (c ∷ cells) few h = absurd h
 
 -- each row counts one at least
-counts_one : (most : ℕ) (fs : List CellForm) (cells : List Cell) → FitsCells most fs cells → 1 ≤ count_in cells
+counts_one : (most : ℕ) (fs : List CellField) (cells : List Cell) → FitsCells most fs cells → 1 ≤ count_in cells
 counts_one most fs [] h = absurd h
 counts_one most fs (Count n ∷ cells) h = h.0.0
 counts_one most fs (c ∷ cells) h = absurd h

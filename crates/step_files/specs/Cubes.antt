@@ -1,24 +1,22 @@
 -- What the step files of a cube are read by.
-use Rattle.std.specs.Prelude.{ℕ, ◌+◌, Bool, true, false, ◌==◌, ◌&&◌, not, List, [], ◌∷◌, ◌++◌, Option, Some, None, filter, length, map, option_to_list, slice_get, slice_index_or}
+use Rattle.std.specs.Prelude.{ℕ, ◌+◌, Bool, true, false, ◌==◌, ◌&&◌, List, [], ◌∷◌, ◌++◌, Option, Some, None, filter, length, map, slice_get, slice_index_or}
 use Rattle.std.specs.List.{flat_map, range_with_len}
 use Rattle.cube_val.specs.declared.form.ColDesc.{ColDesc}
 use Rattle.cube_val.specs.declared.form.WideCol.{WideCol}
 use Rattle.cube_val.specs.declared.val.ColType.TheVariants as ty
 use Rattle.cube_desc.specs.Cube.{Cube}
-use Rattle.cube_desc.specs.FlatRow.{dict_places, is_count, measured}
+use Rattle.cube_desc.specs.FlatRow.{measured}
+use Rattle.cube_desc.specs.Kept.{dict_places, kept_behind}
 use Rattle.cube_desc.specs.Forms.{form_of}
 use Rattle.cube_desc.specs.Meaning.{desc_of}
-use Rattle.cube_desc.specs.declared.desc.MeasureDesc.{MeasureDesc}
+use Rattle.cube_desc.specs.declared.kept.Kept.{Kept}
 use Rattle.measure_laws.specs.declared.measure.MeasureForm.{MeasureForm}
 use Rattle.measure_laws.specs.declared.measure.MeasureForm.TheVariants as measure
 use Rattle.step_fields.specs.declared.column.Column.{Column}
 use Rattle.cube_fields.specs.declared.forms.Extremes.{Extremes}
 use Rattle.step_codec.specs.Tables.{TableShape}
 use Rattle.step_codec.specs.declared.layout.DictColumn.{DictColumn}
-use Rattle.step_codec.specs.declared.layout.KeptForm.{KeptForm}
-use Rattle.step_codec.specs.declared.layout.KeptForm.TheVariants as forms
 use Rattle.step_codec.specs.declared.layout.Layout.{Layout}
-use Rattle.step_files.specs.declared.measures.Kept.{Kept}
 
 -- ---- tables and flat rows
 
@@ -55,33 +53,6 @@ dict_column flat place = record { column = slice_index_or flat place no_column; 
 
 -- ---- measures
 
-abbrev pub kept_of : MeasureDesc → Kept
-kept_of m = record { form = m.form; column = m.column }
-
--- the measures that are kept beside the count
-unfoldable pub kept_measures : Cube → List Kept
-kept_measures c = map kept_of (filter (λ m. not (is_count m.form)) c.measures)
-
-abbrev pub kept_by : ℕ → MeasureForm → Option KeptForm
-kept_by dict measure.Count = None
-kept_by dict measure.Sum = Some forms.Sum
-kept_by dict measure.Min = Some forms.Min
-kept_by dict measure.Max = Some forms.Max
-kept_by dict measure.Distinct = Some (forms.Distinct dict)
-
--- the number of the dictionary behind a measure: each measure of different values has one, in order
-abbrev pub dict_after : ℕ → MeasureForm → ℕ
-dict_after dict measure.Distinct = dict + 1
-dict_after dict measure.Count = dict
-dict_after dict measure.Sum = dict
-dict_after dict measure.Min = dict
-dict_after dict measure.Max = dict
-
--- the forms of measures that are kept, where the dictionaries of those of different values begin at a number
-abbrev pub forms_from : ℕ → List Kept → List KeptForm
-forms_from dict [] = []
-forms_from dict (k ∷ ks) = option_to_list (kept_by dict k.form) ++ forms_from (dict_after dict k.form) ks
-
 abbrev pub is_same : Option ℕ → Option ℕ → Bool
 is_same (Some a) (Some b) = a == b
 is_same (Some a) None = false
@@ -115,8 +86,8 @@ layout_of c = record {
   flat = flat_columns c;
   dicts = map (dict_column (flat_columns c)) (dict_places c);
   dims = length c.rowkey;
-  measures = forms_from (length c.rowkey) (kept_measures c);
-  extremes = extremes_of (kept_measures c);
+  measures = map (λ k. k.form) (kept_behind c);
+  extremes = extremes_of (kept_behind c);
   masks = c.masks;
 }
 

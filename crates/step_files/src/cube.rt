@@ -1,19 +1,21 @@
 // What the step files of a cube are read by.
 
-ghost use Rattle.std.specs.Prelude.{◌≡◌, ◌<◌, ◌+◌, ◌^◌, ◌++◌, IfOk, OnOk, length, map, option_to_list};
-ghost use Rattle.cube_desc.specs.FlatRow.{dict_places, measured};
+ghost use Rattle.std.specs.Prelude.{◌≡◌, ◌<◌, ◌++◌, IfOk, OnOk, length, map};
+ghost use Rattle.cube_desc.specs.FlatRow.{measured};
+ghost use Rattle.cube_desc.specs.Kept.{dict_places, kept_behind};
 ghost use Rattle.cube_desc.specs.Sound.{IsSound};
 ghost use Rattle.step_codec.specs.Layouts.{IsLayout};
-ghost use Rattle.step_files.specs.Cubes.{column_at, columns_in, dict_after, dict_column, extremes_of, flat_columns, forms_from, kept_by, kept_measures, layout_in, layout_of, table_of, tables_of};
+ghost use Rattle.step_files.specs.Cubes.{column_at, columns_in, dict_column, extremes_of, flat_columns, layout_in, layout_of, table_of, tables_of};
 
-use crate::measures::{Kept, extremes_of, kept_measures};
-use cube_desc::flat_row::{dict_places, measured};
+use crate::measures::extremes_of;
+use cube_desc::flat_row::measured;
+use cube_desc::kept::{Kept, dict_places, kept_behind};
 use cube_desc::{CubeDesc, CubeParts};
 use cube_fields::Extremes;
 use cube_val::{ColDesc, ColType, Items, TableForm, WideCol};
 use measure_laws::MeasureForm;
 use std::alloc::{AllocError, Global};
-use step_codec::{DictColumn, KeptForm, Layout, TableColumns};
+use step_codec::{DictColumn, Layout, TableColumns};
 use step_fields::Column;
 
 // The column of a place where there is none.
@@ -136,55 +138,13 @@ fn dict_columns(
     Ok(columns)
 }
 
-fn kept_by(dict: usize, form: MeasureForm) -> Option<KeptForm>
-    ensures { result ≡ kept_by dict form }
-{
-    match form {
-        MeasureForm::Count => None,
-        MeasureForm::Sum => Some(KeptForm::Sum),
-        MeasureForm::Min => Some(KeptForm::Min),
-        MeasureForm::Max => Some(KeptForm::Max),
-        MeasureForm::Distinct => Some(KeptForm::Distinct(dict)),
-    }
-}
-
-// The number of the dictionary behind a measure.
-fn dict_after(dict: usize, form: MeasureForm) -> usize
-    requires { dict + 1 < 2 ^ 64 }
-    ensures { result ≡ dict_after dict form }
-{
-    match form {
-        MeasureForm::Distinct => dict + 1,
-        MeasureForm::Count => dict,
-        MeasureForm::Sum => dict,
-        MeasureForm::Min => dict,
-        MeasureForm::Max => dict,
-    }
-}
-
-// Adds a form, if there is one.
-fn push_form(forms: &mut Vec<KeptForm>, form: Option<KeptForm>) -> Result<(), AllocError>
-    ensures { OnOk result (forms.new.items ≡ forms.old.items ++ option_to_list form) }
-{
-    match form {
-        Some(form) => {
-            forms.push(form)?;
-            Ok(())
-        }
-        None => Ok(()),
-    }
-}
-
-// The forms of the measures that are kept. The dictionaries of those of different values begin at the number.
-fn forms_from(alloc: Global, dict: usize, measures: &[Kept]) -> Result<Vec<KeptForm>, AllocError>
-    requires { dict + length measures.now < 2 ^ 64 }
-    ensures { IfOk result (λ v. v.items ≡ forms_from dict measures.now) }
+// The forms of measures.
+fn forms_of(alloc: Global, measures: &[Kept]) -> Result<Vec<MeasureForm>, AllocError>
+    ensures { IfOk result (λ v. v.items ≡ map (λ k. k.form) measures.now) }
 {
     let mut forms = Vec::new(alloc);
-    let mut next = dict;
     for measure in measures {
-        push_form(&mut forms, kept_by(next, measure.form))?;
-        next = dict_after(next, measure.form);
+        forms.push(measure.form)?;
     }
     Ok(forms)
 }
@@ -202,22 +162,22 @@ fn cube_dicts(
     dict_columns(alloc, flat, places.as_slice())
 }
 
-// The forms of the measures that a cube keeps, and the pairs among them.
+// The forms of the measures that a cube keeps behind the count of rows, and the pairs among them.
 #[derive(Drop)]
 struct KeptForms {
-    forms: Vec<KeptForm>,
+    forms: Vec<MeasureForm>,
     extremes: Vec<Extremes>,
 }
 
 // The forms of the cube's measures.
 fn kept_forms(alloc: Global, cube: &CubeParts) -> Result<KeptForms, AllocError>
     requires { IsSound cube.now }
-    ensures forms { IfOk result (λ k. k.forms.items ≡ forms_from (length cube.now.rowkey) (kept_measures cube.now)) }
-    ensures extremes { IfOk result (λ k. k.extremes.items ≡ extremes_of (kept_measures cube.now)) }
+    ensures forms { IfOk result (λ k. k.forms.items ≡ map (λ kept. kept.form) (kept_behind cube.now)) }
+    ensures extremes { IfOk result (λ k. k.extremes.items ≡ extremes_of (kept_behind cube.now)) }
 {
-    let measures = kept_measures(alloc, cube)?;
+    let measures = kept_behind(alloc, cube)?;
     let extremes = extremes_of(alloc, measures.as_slice())?;
-    let forms = forms_from(alloc, cube.rowkey.len(), measures.as_slice())?;
+    let forms = forms_of(alloc, measures.as_slice())?;
     Ok(KeptForms { forms, extremes })
 }
 

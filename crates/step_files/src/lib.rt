@@ -32,5 +32,5 @@ pub use fault::{ProductRefusal, TaskRefusal};
 pub use files::{product_file, read_product, read_product_with, read_task, task_text};
 pub use laws::{bodies_are_exact, layouts_hold};
 pub use product::Product;
-pub use step_codec::{CuboidRows, DictColumn, DoneStep, KeptForm, Layout, SealBody, TableColumns};
+pub use step_codec::{CuboidRows, DictColumn, DoneStep, Layout, SealBody, TableColumns};
 pub use task::Task;

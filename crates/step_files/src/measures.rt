@@ -1,39 +1,12 @@
-// The measures that a cube keeps beside the count.
+// The pairs of a least and a greatest value among the measures that a cube keeps.
 
 ghost use Rattle.std.specs.Prelude.{◌≡◌, ◌<◌, ◌++◌, IfOk, OnOk, length, slice_get};
-ghost use Rattle.step_files.specs.Cubes.{are_extremes, are_forms, extremes_of, extremes_with, is_same, kept_measures};
+ghost use Rattle.step_files.specs.Cubes.{are_extremes, are_forms, extremes_of, extremes_with, is_same};
 
-use cube_desc::CubeParts;
-use cube_desc::flat_row::is_count;
+use cube_desc::kept::Kept;
 use cube_fields::Extremes;
 use measure_laws::MeasureForm;
 use std::alloc::{AllocError, Global};
-
-/// A measure that is kept beside the count.
-#[derive(Clone, Copy)]
-pub(crate) struct Kept {
-    /// What it makes of the rows.
-    pub(crate) form: MeasureForm,
-    /// The fact table's column that it is of.
-    pub(crate) column: Option<usize>,
-}
-
-/// The measures that are kept beside the count, in their order.
-#[tactic(auto, unfolding(crate::specs::Cubes::kept_measures))]
-pub(crate) fn kept_measures(alloc: Global, cube: &CubeParts) -> Result<Vec<Kept>, AllocError>
-    ensures { IfOk result (λ v. v.items ≡ kept_measures cube.now) }
-{
-    let mut found = Vec::new(alloc);
-    for measure in cube.measures.as_slice() {
-        if !is_count(measure.form) {
-            found.push(Kept {
-                form: measure.form,
-                column: measure.column,
-            })?;
-        }
-    }
-    Ok(found)
-}
 
 fn are_forms(a: MeasureForm, b: MeasureForm) -> bool
     ensures { result ≡ are_forms a b }

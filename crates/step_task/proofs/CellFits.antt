@@ -1,190 +1,35 @@
--- Cells of valid tables, merged: each fits its form again.
-use Rattle.std.proofs.Common.{◌≡◌, ◌≤◌, ◌<◌, ◌+◌, ◌++◌, ℕ, Bool, true, false, cond, List, [], ◌∷◌, length, length-append, Option, Some, None, map, refl, sym, ap, subst, arith, nat_cmp}
-use Rattle.std.specs.Prelude.{ℤ, ◌+ℤ◌, FitsSigned, int_lt, nat_abs}
-use Rattle.std.specs.Int.{int_max, int_min, w64}
-use Rattle.std.specs.List.{AllByRecursion}
-use Rattle.std.specs.BTreeSet.{insert_key}
-use Rattle.std.specs.Ordering.{match_ordering}
-use Rattle.std.specs.declared.cmp.Ordering.{Ordering}
-use Rattle.std.specs.declared.cmp.Ordering.TheVariants.{Less, Equal, Greater}
-use Rattle.std.proofs.lemmas.Int.{ints}
+-- Rows of cells of valid tables, merged: each fits its field again.
+use Rattle.std.proofs.Common.{◌+◌, ℕ, List, [], ◌∷◌, map}
 use Rattle.byte_frame.specs.Spelling.{EachFits}
-use Rattle.cell_gather.specs.Merges.{merged_cell, merged_cells, no_cell}
+use Rattle.cell_gather.specs.Merges.{merged_cells}
+use Rattle.cell_store.specs.Cells.{no_cell}
 use Rattle.cell_store.specs.declared.cell.Cell.{Cell}
-use Rattle.cell_store.specs.declared.cell.Cell.TheVariants.{Sum, Min, Max, Distinct}
-use Rattle.cube_fields.specs.Cells.{FitsCell, FitsExtreme, FitsId, FitsIds, FitsSum, measure_of}
-use Rattle.cube_fields.specs.declared.forms.CellForm.{CellForm}
-use Rattle.cube_fields.specs.declared.forms.CellForm.TheVariants as form
-use Rattle.measure_laws.specs.Extremes.{Extreme, merged_greatest, merged_least, picked}
-use Rattle.measure_laws.specs.Ids.{Ids, different, merged_ids}
-use Rattle.measure_laws.specs.Measures.{Summed, merged_sum}
+use Rattle.cube_fields.specs.Cells.{FitsCell}
+use Rattle.cube_fields.specs.declared.forms.CellField.{CellField}
+use Rattle.cube_fields.proofs.MergeFits.{HasForm, has_form, has_none, merge_forms}
+use Rattle.measure_laws.specs.declared.measure.MeasureForm.{MeasureForm}
 
--- ---- cells of any number of items, none included
+-- a cell of the field, of so many items, none included
+abbrev pub HasCell : ℕ → CellField → Cell → Type 0
+HasCell n field c = HasForm n field.size field.form c
 
-abbrev FitsOption : Option ℤ → Type 0
-FitsOption None = Unit {0}
-FitsOption (Some v) = FitsSigned w64 v
-
-abbrev HasExtreme : ℕ → Extreme → Type 0
-HasExtreme n m = (m.items ≡ n) × FitsOption m.value
-
-abbrev HasIds : ℕ → ℕ → Ids → Type 0
-HasIds n size d = (d.items ≡ n) × ((length d.ids ≤ n) × AllByRecursion (FitsId size) d.ids)
-
-abbrev pub HasCell : ℕ → CellForm → Cell → Type 0
-HasCell n form.Sum (Sum s) = FitsSum n s
-HasCell n form.Min (Min m) = HasExtreme n m
-HasCell n form.Max (Max m) = HasExtreme n m
-HasCell n (form.Distinct size) (Distinct d) = HasIds n size d
-HasCell n f c = ⊥
-
-has_extreme : (n : ℕ) (m : Extreme) → FitsExtreme n m → HasExtreme n m
-has_extreme n m h = (h.0, subst FitsOption (sym h.1.1.0) h.1.1.1)
-
-pub has_cell : (n : ℕ) (f : CellForm) (c : Cell) → FitsCell n f c → HasCell n f c
-has_cell n form.Sum (Sum s) h = h
-has_cell n form.Sum c h = absurd h
-has_cell n form.Min (Min m) h = has_extreme n m h
-has_cell n form.Min c h = absurd h
-has_cell n form.Max (Max m) h = has_extreme n m h
-has_cell n form.Max c h = absurd h
-has_cell n (form.Distinct size) (Distinct d) h = (h.0, (h.1.1.0, h.1.1.1))
-has_cell n (form.Distinct size) c h = absurd h
-
-pub has_none : (f : CellForm) → HasCell 0 f (no_cell (measure_of f))
-has_none form.Sum = (refl, omega arith)
-has_none form.Min = (refl, tt)
-has_none form.Max = (refl, tt)
-has_none (form.Distinct size) = (refl, (omega arith, tt))
-
--- ---- numbers put in their places
-
-pub put : {K : Type 0} (cmp : K → K → Ordering) (P : K → Type 0) (xs : List K) (x : K) → AllByRecursion P xs → P x → AllByRecursion P (insert_key cmp xs x)
-put cmp P [] x all one = (one, tt)
-put cmp P (y ∷ xs) x all one = by (cmp x y) (put cmp P xs x all.1 one) where
-  by : (o : Ordering) → AllByRecursion P (insert_key cmp xs x) → AllByRecursion P (match_ordering o (x ∷ y ∷ xs) (y ∷ xs) (y ∷ insert_key cmp xs x))
-  by Less rest = (one, all)
-  by Equal rest = all
-  by Greater rest = (all.0, rest)
-
-put_more : (xs : List ℕ) (x : ℕ) → length (insert_key nat_cmp xs x) ≤ length xs + 1
-put_more [] x = omega arith
-put_more (y ∷ xs) x = by (nat_cmp x y) (put_more xs x) where
-  by : (o : Ordering) → length (insert_key nat_cmp xs x) ≤ length xs + 1 → length (match_ordering o (x ∷ y ∷ xs) (y ∷ xs) (y ∷ insert_key nat_cmp xs x)) ≤ length (y ∷ xs) + 1
-  by Less rest = omega arith
-  by Equal rest = omega arith
-  by Greater rest = omega (arith, rest)
-
-put_some : (xs : List ℕ) (x : ℕ) → 0 < length (insert_key nat_cmp xs x)
-put_some [] x = omega arith
-put_some (y ∷ xs) x = by (nat_cmp x y) where
-  by : (o : Ordering) → 0 < length (match_ordering o (x ∷ y ∷ xs) (y ∷ xs) (y ∷ insert_key nat_cmp xs x))
-  by Less = omega arith
-  by Equal = omega arith
-  by Greater = omega arith
-
-pub all_different : (P : ℕ → Type 0) (xs : List ℕ) → AllByRecursion P xs → AllByRecursion P (different xs)
-all_different P [] all = tt
-all_different P (x ∷ xs) all = put nat_cmp P (different xs) x (all_different P xs all.1) all.0
-
-pub few_different : (xs : List ℕ) → length (different xs) ≤ length xs
-few_different [] = omega arith
-few_different (x ∷ xs) = omega (arith, put_more (different xs) x, few_different xs)
-
-pub some_different : (xs : List ℕ) → 0 < length xs → 0 < length (different xs)
-some_different [] lt = absurd (omega arith)
-some_different (x ∷ xs) lt = put_some (different xs) x
-
-all_joined : (P : ℕ → Type 0) (xs ys : List ℕ) → AllByRecursion P xs → AllByRecursion P ys → AllByRecursion P (xs ++ ys)
-all_joined P [] ys a b = b
-all_joined P (x ∷ xs) ys a b = (a.0, all_joined P xs ys a.1 b)
-
--- ---- cells merged
-
-triangle : (x y : ℤ) → nat_abs (x +ℤ y) ≤ nat_abs x + nat_abs y
-triangle x y = omega (arith, ints)
-
-sums_fit : (n m : ℕ) (s t : Summed) → FitsSum n s → FitsSum m t → FitsSum (n + m) (merged_sum s t)
-sums_fit n m s t h k = (omega (arith, h.0, k.0), omega (arith, triangle s.total t.total, h.1, k.1))
-
-least_fits : (x y : ℤ) → FitsSigned w64 x → FitsSigned w64 y → FitsSigned w64 (int_min x y)
-least_fits x y h k = by (int_lt y x) where
-  by : (b : Bool) → FitsSigned w64 (cond b y x)
-  by true = k
-  by false = h
-
-greatest_fits : (x y : ℤ) → FitsSigned w64 x → FitsSigned w64 y → FitsSigned w64 (int_max x y)
-greatest_fits x y h k = by (int_lt y x) where
-  by : (b : Bool) → FitsSigned w64 (cond b x y)
-  by true = h
-  by false = k
-
--- the value that is picked of one that is there and another that may be
-picked_fits : (pick : ℤ → ℤ → ℤ) → ((x y : ℤ) → FitsSigned w64 x → FitsSigned w64 y → FitsSigned w64 (pick x y)) → (a b : Option ℤ) (x : ℤ) → a ≡ Some x → FitsSigned w64 x → FitsOption b
-    → (v : ℤ) × ((picked pick a b ≡ Some v) × FitsSigned w64 v)
-picked_fits pick keeps None b x e h k = absurd cc
-picked_fits pick keeps (Some z) None x e h k = (x, (e, h))
-picked_fits pick keeps (Some z) (Some y) x e h k = let same : z ≡ x = cc in (pick x y, (ap (λ n. Some (pick n y)) same, keeps x y h k))
-
-leasts_fit : (n m : ℕ) (s t : Extreme) → FitsExtreme n s → HasExtreme m t → FitsExtreme (n + m) (merged_least s t)
-leasts_fit n m s t h k = (omega (arith, h.0, k.0), picked_fits int_min least_fits s.value t.value h.1.0 h.1.1.0 h.1.1.1 k.1)
-
-greatests_fit : (n m : ℕ) (s t : Extreme) → FitsExtreme n s → HasExtreme m t → FitsExtreme (n + m) (merged_greatest s t)
-greatests_fit n m s t h k = (omega (arith, h.0, k.0), picked_fits int_max greatest_fits s.value t.value h.1.0 h.1.1.0 h.1.1.1 k.1)
-
-ids_fit : (n m size : ℕ) (s t : Ids) → FitsIds n size s → HasIds m size t → FitsIds (n + m) size (merged_ids s t)
-ids_fit n m size s t h k =
-    let whole = length-append s.ids t.ids in (
-      omega (arith, h.0, k.0),
-      (
-        some_different (s.ids ++ t.ids) (omega (arith, whole, h.1.0)),
-        (
-          omega (arith, few_different (s.ids ++ t.ids), whole, h.1.1.0, k.1.0),
-          all_different (FitsId size) (s.ids ++ t.ids) (all_joined (FitsId size) s.ids t.ids h.1.1.1 k.1.1),
-        ),
-      ),
-    )
-
-merge_sum : (n m : ℕ) (s : Summed) (b : Cell) → FitsSum n s → HasCell m form.Sum b → FitsCell (n + m) form.Sum (merged_cell (Sum s) b)
-merge_sum n m s (Sum t) h k = sums_fit n m s t h k
-merge_sum n m s b h k = absurd k
-
-merge_least : (n m : ℕ) (s : Extreme) (b : Cell) → FitsExtreme n s → HasCell m form.Min b → FitsCell (n + m) form.Min (merged_cell (Min s) b)
-merge_least n m s (Min t) h k = leasts_fit n m s t h k
-merge_least n m s b h k = absurd k
-
-merge_greatest : (n m : ℕ) (s : Extreme) (b : Cell) → FitsExtreme n s → HasCell m form.Max b → FitsCell (n + m) form.Max (merged_cell (Max s) b)
-merge_greatest n m s (Max t) h k = greatests_fit n m s t h k
-merge_greatest n m s b h k = absurd k
-
-merge_ids : (n m size : ℕ) (s : Ids) (b : Cell) → FitsIds n size s → HasCell m (form.Distinct size) b → FitsCell (n + m) (form.Distinct size) (merged_cell (Distinct s) b)
-merge_ids n m size s (Distinct t) h k = ids_fit n m size s t h k
-merge_ids n m size s b h k = absurd k
-
-merge_fits : (n m : ℕ) (f : CellForm) (a b : Cell) → FitsCell n f a → HasCell m f b → FitsCell (n + m) f (merged_cell a b)
-merge_fits n m form.Sum (Sum s) b h k = merge_sum n m s b h k
-merge_fits n m form.Sum a b h k = absurd h
-merge_fits n m form.Min (Min s) b h k = merge_least n m s b h k
-merge_fits n m form.Min a b h k = absurd h
-merge_fits n m form.Max (Max s) b h k = merge_greatest n m s b h k
-merge_fits n m form.Max a b h k = absurd h
-merge_fits n m (form.Distinct size) (Distinct s) b h k = merge_ids n m size s b h k
-merge_fits n m (form.Distinct size) a b h k = absurd h
+abbrev pub form_in : CellField → MeasureForm
+form_in field = field.form
 
 -- cells of n items and of m, one by one
-pub cells_merge : (n m : ℕ) (fs : List CellForm) (xs ys : List Cell) → EachFits (FitsCell n) fs xs → EachFits (HasCell m) fs ys → EachFits (FitsCell (n + m)) fs (merged_cells xs ys)
+pub cells_merge : (n m : ℕ) (fs : List CellField) (xs ys : List Cell) → EachFits (FitsCell n) fs xs → EachFits (HasCell m) fs ys → EachFits (FitsCell (n + m)) fs (merged_cells xs ys)
 cells_merge n m [] [] ys h k = tt
 cells_merge n m [] (a ∷ xs) ys h k = absurd h
 cells_merge n m (f ∷ fs) [] ys h k = absurd h
 cells_merge n m (f ∷ fs) (a ∷ xs) [] h k = absurd k
-cells_merge n m (f ∷ fs) (a ∷ xs) (b ∷ ys) h k = (merge_fits n m f a b h.0 k.0, cells_merge n m fs xs ys h.1 k.1)
+cells_merge n m (f ∷ fs) (a ∷ xs) (b ∷ ys) h k = (merge_forms n m f.size f.form a b h.0 k.0, cells_merge n m fs xs ys h.1 k.1)
 
-pub cells_have : (n : ℕ) (fs : List CellForm) (cs : List Cell) → EachFits (FitsCell n) fs cs → EachFits (HasCell n) fs cs
+pub cells_have : (n : ℕ) (fs : List CellField) (cs : List Cell) → EachFits (FitsCell n) fs cs → EachFits (HasCell n) fs cs
 cells_have n [] [] h = tt
 cells_have n [] (c ∷ cs) h = absurd h
 cells_have n (f ∷ fs) [] h = absurd h
-cells_have n (f ∷ fs) (c ∷ cs) h = (has_cell n f c h.0, cells_have n fs cs h.1)
+cells_have n (f ∷ fs) (c ∷ cs) h = (has_form n f.size f.form c h.0, cells_have n fs cs h.1)
 
-pub none_have : (fs : List CellForm) → EachFits (HasCell 0) fs (map no_cell (map measure_of fs))
+pub none_have : (fs : List CellField) → EachFits (HasCell 0) fs (map no_cell (map form_in fs))
 none_have [] = tt
-none_have (f ∷ fs) = (has_none f, none_have fs)
+none_have (f ∷ fs) = (has_none f.size f.form, none_have fs)

@@ -1,30 +1,37 @@
 -- The dictionaries of flat rows are those of a product.
-use Rattle.std.proofs.Common.{◌≡◌, ◌≤◌, ◌∙◌, ℕ, zero, suc, Bool, true, false, cond, List, [], ◌∷◌, length, get_or, map, refl, sym, ap, subst, arith}
-use Rattle.std.specs.Prelude.{◌||◌}
-use Rattle.std.specs.List.{AllByRecursion, list_all, list_any}
+use Rattle.std.proofs.Common.{◌≡◌, ◌≤◌, ◌++◌, ◌∙◌, ℕ, zero, suc, Bool, true, false, cond, List, [], ◌∷◌, Some, None, length, get_or, map, refl, sym, ap, subst, arith}
+use Rattle.std.specs.Prelude.{◌||◌, Option}
+use Rattle.std.specs.List.{AllByRecursion, cons_option, filter_map, list_all, list_any, range_with_len}
 use Rattle.std.specs.Ordering.{eq_by_cmp}
-use Rattle.std.proofs.lemmas.List.{length-map}
+use Rattle.std.proofs.lemmas.List.{length-map, map-append}
 use Rattle.aggregation.proofs.DistinctFacts.{length-distinct}
 use Rattle.aggregation.proofs.GroupFacts.{any-distinct, itself, rises-distinct}
 use Rattle.cube_desc.specs.Cube.{Cube}
+use Rattle.cube_desc.specs.FlatRow.{place_of}
 use Rattle.cube_fields.specs.Dicts.{FitsDict, FitsDicts}
 use Rattle.cube_val.specs.declared.val.Val.{Val}
+use Rattle.cube_val.specs.declared.val.Val.TheVariants.{Null, Int, Text}
 use Rattle.cube_val.specs.Order.{val_cmp}
 use Rattle.cube_val.specs.OrderLaws.{val_cmp_total}
 use Rattle.cube_val.proofs.OrderFacts.{val_cmp_exact}
 use Rattle.dim_dictionary.specs.Dictionaries.{dictionary_of}
-use Rattle.plain_answer.specs.Aggregates.{cell}
+use Rattle.plain_answer.specs.Aggregates.{cell, known}
 use Rattle.step_codec.specs.Bodies.{FitsHolding, holds, is_in}
 use Rattle.step_codec.specs.Layouts.{dict_form, row_limit}
 use Rattle.step_fields.specs.Fits.{FitsColumn, FitsRow}
 use Rattle.step_fields.specs.declared.column.Column.{Column}
-use Rattle.cube_desc.specs.FlatRow.{dict_places}
+use Rattle.cube_desc.specs.Kept.{dict_place, dict_places, distinct_places, kept_behind}
+use Rattle.cube_desc.specs.Sound.{IsSound}
+use Rattle.cube_desc.specs.declared.kept.Kept.{Kept}
+use Rattle.cube_desc.proofs.KeptFacts.{IsKept, all_kept}
+use Rattle.measure_laws.specs.Kinds.{has_dictionary}
 use Rattle.step_files.specs.Cubes.{dict_column, flat_columns, layout_of, no_column}
 use Rattle.step_files.specs.Tasks.{FitsFlat}
-use Rattle.step_compute.specs.Values.{dict_value, values_in}
+use Rattle.step_compute.specs.Values.{dict_value, known_in, values_in}
 use Rattle.table_reader.specs.Keys.{val_at}
-use Rattle.step_task.proofs.CellFits.{put}
+use Rattle.cube_fields.proofs.MergeFits.{put}
 use Rattle.step_task.proofs.FlatFits.{value_fits}
+use Rattle.step_task.proofs.KeptFits.{kept_column, no_nulls}
 
 -- ---- values
 
@@ -80,8 +87,47 @@ all_held columns rows places (row ∷ some) within =
     later true b e = refl
     later false b e = e
 
+-- ---- columns without null
+
+known_some : (v : Val) → (v ≡ Null → ⊥) → known v ≡ Some v
+known_some Null there = absurd (there refl)
+known_some (Int n) there = refl
+known_some (Text t) there = refl
+
+-- the known values of a column in which no null stands are its values
+known_same : (columns : List Column) (place : ℕ) (rows : List (List Val)) → (get_or columns place no_column).no_null ≡ true → AllByRecursion (FitsRow columns) rows → known_in rows place ≡ values_in rows place
+known_same columns place [] none all = refl
+known_same columns place (row ∷ rows) none all =
+    let fits : FitsColumn (get_or columns place no_column) (cell row place) = subst (FitsColumn (get_or columns place no_column)) (sym (cell_is row place)) (value_fits columns row place all.0) in
+    let there : cell row place ≡ Null → ⊥ = no_nulls (get_or columns place no_column) (cell row place) none fits in
+    ap (λ (o : Option Val). cons_option o (known_in rows place)) (known_some (cell row place) there) ∙ ap (λ l. cell row place ∷ l) (known_same columns place rows none all.1)
+
+abbrev Same : List (List Val) → List ℕ → Type 0
+Same flat places = map (λ place. dictionary_of (known_in flat place)) places ≡ map (λ place. dictionary_of (values_in flat place)) places
+
+-- the dictionaries of measures are those of their columns' values
+distinct_same : (c : Cube) → IsSound c → (flat : List (List Val)) → AllByRecursion (FitsRow (flat_columns c)) flat → (ks : List Kept) → AllByRecursion (IsKept c) ks
+    → map (λ place. dictionary_of (known_in flat place)) (filter_map (dict_place c) ks) ≡ map (λ place. dictionary_of (values_in flat place)) (filter_map (dict_place c) ks)
+distinct_same c s flat fits [] kept = refl
+distinct_same c s flat fits (k ∷ ks) kept = by (has_dictionary k.form) (distinct_same c s flat fits ks kept.1)
+  where
+    own : dictionary_of (known_in flat (place_of c k.column)) ≡ dictionary_of (values_in flat (place_of c k.column))
+    own = ap dictionary_of (known_same (flat_columns c) (place_of c k.column) flat (kept_column c s k kept.0).no_null fits)
+
+    by : (b : Bool) → Same flat (filter_map (dict_place c) ks) → Same flat (cons_option (cond b (Some (place_of c k.column)) None) (filter_map (dict_place c) ks))
+    by true rest = λ i. own i ∷ rest i
+    by false rest = rest
+
+pub dict_value_is : (c : Cube) → IsSound c → (flat : List (List Val)) → AllByRecursion (FitsRow (flat_columns c)) flat → dict_value c flat ≡ map (λ place. dictionary_of (values_in flat place)) (dict_places c)
+unfolding distinct_places
+dict_value_is c s flat fits =
+    ap (λ l. map (λ place. dictionary_of (values_in flat place)) (range_with_len 0 (length c.rowkey)) ++ l) (distinct_same c s flat fits (kept_behind c) (all_kept c s))
+    ∙ sym (map-append (λ place. dictionary_of (values_in flat place)) (range_with_len 0 (length c.rowkey)) (distinct_places c))
+
 -- ---- dictionaries
 
-pub dicts_hold : (c : Cube) (flat : List (List Val)) → FitsFlat (layout_of c) flat → FitsHolding (layout_of c) row_limit flat (dict_value c flat)
+pub dicts_hold : (c : Cube) → IsSound c → (flat : List (List Val)) → FitsFlat (layout_of c) flat → FitsHolding (layout_of c) row_limit flat (dict_value c flat)
 unfolding layout_of
-dicts_hold c flat h = (dicts_fit (flat_columns c) flat (dict_places c) h.0 h.1, all_held (flat_columns c) flat (dict_places c) flat (λ v place e. e))
+dicts_hold c s flat h =
+    subst (λ (dicts : List (List Val)). FitsHolding (layout_of c) row_limit flat dicts) (sym (dict_value_is c s flat h.1))
+    (dicts_fit (flat_columns c) flat (dict_places c) h.0 h.1, all_held (flat_columns c) flat (dict_places c) flat (λ v place e. e))

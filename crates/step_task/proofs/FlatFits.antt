@@ -84,7 +84,7 @@ match_fits c s fact (j ∷ joins) (l ∷ lookups) (suc t) row each e =
 
 -- ---- a joined row
 
-tables_at : (c : Cube) (t : ℕ) → t < length c.tables → get_or (tables_of c) t no_table ≡ table_of c t
+pub tables_at : (c : Cube) (t : ℕ) → t < length c.tables → get_or (tables_of c) t no_table ≡ table_of c t
 unfolding tables_of
 tables_at c t lt = in_range (table_of c) 0 (length c.tables) t no_table lt ∙ (let same : 0 + t ≡ t = omega arith in ap (table_of c) same) where
   in_range : {X : Type 0} (f : ℕ → X) (a n t : ℕ) (d : X) → t < n → get_or (map f (range_with_len a n)) t d ≡ f (a + t)
@@ -136,7 +136,7 @@ few_kept test f g (x ∷ xs) = by (test x) (few_kept test f g xs) where
   by true rest = omega (arith, rest)
   by false rest = omega (arith, rest)
 
-all_dropped : {X : Type 0} (P : X → Type 0) (n : ℕ) (xs : List X) → AllByRecursion P xs → AllByRecursion P (drop n xs)
+pub all_dropped : {X : Type 0} (P : X → Type 0) (n : ℕ) (xs : List X) → AllByRecursion P xs → AllByRecursion P (drop n xs)
 all_dropped P zero xs all = all
 all_dropped P (suc n) [] all = tt
 all_dropped P (suc n) (x ∷ xs) all = all_dropped P n xs all.1

@@ -15,79 +15,80 @@ use Rattle.aggregation.proofs.GroupFacts.{all_grouped, itself, merged_aggregate,
 use Rattle.byte_frame.specs.Spelling.{EachFits}
 use Rattle.cell_gather.specs.Gathers.{gathered}
 use Rattle.cell_gather.specs.Keys.{dims_of, kept_numbers, part_of}
-use Rattle.cell_gather.specs.Merges.{merged_cell, merged_cells, no_cell}
+use Rattle.cell_gather.specs.Merges.{merged_cells}
 use Rattle.cell_gather.proofs.GatherFacts.{key_exact}
 use Rattle.cell_gather.proofs.TableFacts.{sum_mapped}
-use Rattle.cell_store.specs.Cells.{key_cmp}
+use Rattle.cell_store.specs.Cells.{key_cmp, merged_cell, no_cell}
 use Rattle.cell_store.specs.declared.cell.Cell.{Cell}
 use Rattle.cell_store.specs.declared.cell.Cell.TheVariants.{Count, Min, Max}
-use Rattle.cube_fields.specs.Cells.{FitsCell, FitsCells, FitsId, FitsRow, FitsTable, are_ordered, count_in, dims_in, measure_of, measures_of, sizes_in, value_in}
-use Rattle.cube_fields.specs.declared.forms.CellForm.{CellForm}
-use Rattle.cube_fields.specs.declared.forms.CellForm.TheVariants as form
+use Rattle.cube_fields.specs.Cells.{FitsCell, FitsCells, FitsForm, FitsId, FitsRow, FitsTable, are_ordered, count_in, dims_in, measures_of, sizes_in, value_in}
+use Rattle.cube_fields.specs.declared.forms.CellField.{CellField}
+use Rattle.measure_laws.specs.declared.measure.MeasureForm.{MeasureForm}
+use Rattle.measure_laws.specs.declared.measure.MeasureForm.TheVariants as measure
 use Rattle.cube_fields.specs.declared.forms.Extremes.{Extremes}
 use Rattle.cube_fields.specs.declared.forms.CellTableForm.{CellTableForm}
 use Rattle.measure_laws.specs.Extremes.{Extreme, greatest_of, least_of, picked}
 use Rattle.measure_laws.specs.Measures.{MeasureLaws}
-use Rattle.step_task.proofs.CellFits.{HasCell, cells_have, cells_merge, none_have}
+use Rattle.step_task.proofs.CellFits.{HasCell, cells_have, cells_merge, form_in, none_have}
 
 abbrev pub Row : Type 0
 Row = List ℕ × List Cell
 
 -- ---- cells of a group
 
-abbrev HasCells : ℕ → List CellForm → List Cell → Type 0
+abbrev HasCells : ℕ → List CellField → List Cell → Type 0
 HasCells n fs (Count k ∷ cells) = (k ≡ n) × EachFits (HasCell n) fs cells
 HasCells n fs cells = ⊥
 
-abbrev AreCells : ℕ → List CellForm → List Cell → Type 0
+abbrev AreCells : ℕ → List CellField → List Cell → Type 0
 AreCells n fs (Count k ∷ cells) = (k ≡ n) × EachFits (FitsCell n) fs cells
 AreCells n fs cells = ⊥
 
-has_cells : (n : ℕ) (fs : List CellForm) (cells : List Cell) → AreCells n fs cells → HasCells n fs cells
+has_cells : (n : ℕ) (fs : List CellField) (cells : List Cell) → AreCells n fs cells → HasCells n fs cells
 has_cells n fs [] h = absurd h
 has_cells n fs (Count k ∷ cells) h = (h.0, cells_have n fs cells h.1)
 has_cells n fs (c ∷ cells) h = absurd h
 
-are_cells : (most : ℕ) (fs : List CellForm) (cells : List Cell) → FitsCells most fs cells → AreCells (count_in cells) fs cells × (1 ≤ count_in cells)
+are_cells : (most : ℕ) (fs : List CellField) (cells : List Cell) → FitsCells most fs cells → AreCells (count_in cells) fs cells × (1 ≤ count_in cells)
 are_cells most fs [] h = absurd h
 are_cells most fs (Count n ∷ cells) h = ((refl, h.1), h.0.0)
 are_cells most fs (c ∷ cells) h = absurd h
 
-fits_cells : (most n : ℕ) (fs : List CellForm) (cells : List Cell) → AreCells n fs cells → 1 ≤ n → n ≤ most → FitsCells most fs cells
+fits_cells : (most n : ℕ) (fs : List CellField) (cells : List Cell) → AreCells n fs cells → 1 ≤ n → n ≤ most → FitsCells most fs cells
 fits_cells most n fs [] h some few = absurd h
 fits_cells most n fs (Count k ∷ cells) h some few = ((omega (arith, h.0), omega (arith, h.0)), subst (λ m. EachFits (FitsCell m) fs cells) (sym h.0) h.1)
 fits_cells most n fs (c ∷ cells) h some few = absurd h
 
-counted : (n : ℕ) (fs : List CellForm) (cells : List Cell) → HasCells n fs cells → count_in cells ≡ n
+counted : (n : ℕ) (fs : List CellField) (cells : List Cell) → HasCells n fs cells → count_in cells ≡ n
 counted n fs [] h = absurd h
 counted n fs (Count k ∷ cells) h = h.0
 counted n fs (c ∷ cells) h = absurd h
 
-merge_counted : (n m k : ℕ) (fs : List CellForm) (xs ys : List Cell) → k ≡ n → EachFits (FitsCell n) fs xs → HasCells m fs ys → AreCells (n + m) fs (merged_cells (Count k ∷ xs) ys)
+merge_counted : (n m k : ℕ) (fs : List CellField) (xs ys : List Cell) → k ≡ n → EachFits (FitsCell n) fs xs → HasCells m fs ys → AreCells (n + m) fs (merged_cells (Count k ∷ xs) ys)
 merge_counted n m k fs xs [] e h g = absurd g
 merge_counted n m k fs xs (Count j ∷ ys) e h g = (omega (arith, e, g.0), cells_merge n m fs xs ys h g.1)
 merge_counted n m k fs xs (c ∷ ys) e h g = absurd g
 
-merge_front : (n m : ℕ) (fs : List CellForm) (xs ys : List Cell) → AreCells n fs xs → HasCells m fs ys → AreCells (n + m) fs (merged_cells xs ys)
+merge_front : (n m : ℕ) (fs : List CellField) (xs ys : List Cell) → AreCells n fs xs → HasCells m fs ys → AreCells (n + m) fs (merged_cells xs ys)
 merge_front n m fs [] ys h k = absurd h
 merge_front n m fs (Count j ∷ xs) ys h k = merge_counted n m j fs xs ys h.0 h.1 k
 merge_front n m fs (c ∷ xs) ys h k = absurd h
 
-abbrev pub merged : List CellForm → List (List Cell) → List Cell
-merged fs rows = merged_all (Count 0 ∷ map no_cell (map measure_of fs)) merged_cells rows
+abbrev pub merged : List CellField → List (List Cell) → List Cell
+merged fs rows = merged_all (Count 0 ∷ map no_cell (map form_in fs)) merged_cells rows
 
-group_has : (most : ℕ) (fs : List CellForm) (rows : List (List Cell)) → AllByRecursion (FitsCells most fs) rows → HasCells (sum_by count_in rows) fs (merged fs rows)
+group_has : (most : ℕ) (fs : List CellField) (rows : List (List Cell)) → AllByRecursion (FitsCells most fs) rows → HasCells (sum_by count_in rows) fs (merged fs rows)
 group_has most fs [] all = (refl, none_have fs)
 group_has most fs (c ∷ rows) all =
     subst (λ n. HasCells n fs (merged fs (c ∷ rows))) (sym (sum_by-cons count_in c rows))
     (has_cells (count_in c + sum_by count_in rows) fs (merged fs (c ∷ rows))
     (merge_front (count_in c) (sum_by count_in rows) fs c (merged fs rows) (are_cells most fs c all.0).0 (group_has most fs rows all.1)))
 
-group_are : (most : ℕ) (fs : List CellForm) (c : List Cell) (rows : List (List Cell)) → FitsCells most fs c → AllByRecursion (FitsCells most fs) rows
+group_are : (most : ℕ) (fs : List CellField) (c : List Cell) (rows : List (List Cell)) → FitsCells most fs c → AllByRecursion (FitsCells most fs) rows
     → AreCells (count_in c + sum_by count_in rows) fs (merged fs (c ∷ rows))
 group_are most fs c rows one all = merge_front (count_in c) (sum_by count_in rows) fs c (merged fs rows) (are_cells most fs c one).0 (group_has most fs rows all)
 
-pub group_fits : (most : ℕ) (fs : List CellForm) (rows : List (List Cell)) → 0 < length rows → AllByRecursion (FitsCells most fs) rows → sum_by count_in rows ≤ most → FitsCells most fs (merged fs rows)
+pub group_fits : (most : ℕ) (fs : List CellField) (rows : List (List Cell)) → 0 < length rows → AllByRecursion (FitsCells most fs) rows → sum_by count_in rows ≤ most → FitsCells most fs (merged fs rows)
 group_fits most fs [] some all few = absurd (omega arith)
 group_fits most fs (c ∷ rows) some all few =
     let sums = sum_by-cons count_in c rows in
@@ -96,13 +97,13 @@ group_fits most fs (c ∷ rows) some all few =
 -- ---- the least and the greatest value of a group
 
 -- the places are those of a least and of a greatest value
-pub record AreExtremes (fs : List CellForm) (e : Extremes) : Type 0 where
+pub record AreExtremes (fs : List CellField) (e : Extremes) : Type 0 where
   pub least : ℕ
   pub greatest : ℕ
   pub at_least : e.least ≡ suc least
   pub at_greatest : e.greatest ≡ suc greatest
-  pub is_least : slice_get fs least ≡ Some form.Min
-  pub is_greatest : slice_get fs greatest ≡ Some form.Max
+  pub is_least : slice_get (map form_in fs) least ≡ Some measure.Min
+  pub is_greatest : slice_get (map form_in fs) greatest ≡ Some measure.Max
 
 -- a value at a place
 record IsAt (cells : List Cell) (i : ℕ) (of : Extreme → Cell) (v : ℤ) : Type 0 where
@@ -110,34 +111,34 @@ record IsAt (cells : List Cell) (i : ℕ) (of : Extreme → Cell) (v : ℤ) : Ty
   is : slice_get cells i ≡ Some (of at)
   value : at.value ≡ Some v
 
-least_cell : (n : ℕ) (f : CellForm) (c : Cell) → f ≡ form.Min → FitsCell n f c → (v : ℤ) × ((s : Extreme) × ((c ≡ Min s) × (s.value ≡ Some v)))
-least_cell n form.Min (Min s) e h = (h.1.0, (s, (refl, h.1.1.0)))
-least_cell n form.Min c e h = absurd h
-least_cell n form.Sum c e h = absurd cc
-least_cell n form.Max c e h = absurd cc
-least_cell n (form.Distinct size) c e h = absurd cc
+least_form : (n size : ℕ) (c : Cell) → FitsForm n size measure.Min c → (v : ℤ) × ((s : Extreme) × ((c ≡ Min s) × (s.value ≡ Some v)))
+least_form n size (Min s) h = (h.1.0, (s, (refl, h.1.1.0)))
+least_form n size c h = absurd h
 
-greatest_cell : (n : ℕ) (f : CellForm) (c : Cell) → f ≡ form.Max → FitsCell n f c → (v : ℤ) × ((s : Extreme) × ((c ≡ Max s) × (s.value ≡ Some v)))
-greatest_cell n form.Max (Max s) e h = (h.1.0, (s, (refl, h.1.1.0)))
-greatest_cell n form.Max c e h = absurd h
-greatest_cell n form.Sum c e h = absurd cc
-greatest_cell n form.Min c e h = absurd cc
-greatest_cell n (form.Distinct size) c e h = absurd cc
+least_cell : (n : ℕ) (f : CellField) (c : Cell) → f.form ≡ measure.Min → FitsCell n f c → (v : ℤ) × ((s : Extreme) × ((c ≡ Min s) × (s.value ≡ Some v)))
+least_cell n f c e h = least_form n f.size c (subst (λ (g : MeasureForm). FitsForm n f.size g c) e h)
 
-least_there : (n : ℕ) (fs : List CellForm) (cells : List Cell) (i : ℕ) → EachFits (FitsCell n) fs cells → slice_get fs i ≡ Some form.Min → (v : ℤ) × IsAt cells i Min v
+greatest_form : (n size : ℕ) (c : Cell) → FitsForm n size measure.Max c → (v : ℤ) × ((s : Extreme) × ((c ≡ Max s) × (s.value ≡ Some v)))
+greatest_form n size (Max s) h = (h.1.0, (s, (refl, h.1.1.0)))
+greatest_form n size c h = absurd h
+
+greatest_cell : (n : ℕ) (f : CellField) (c : Cell) → f.form ≡ measure.Max → FitsCell n f c → (v : ℤ) × ((s : Extreme) × ((c ≡ Max s) × (s.value ≡ Some v)))
+greatest_cell n f c e h = greatest_form n f.size c (subst (λ (g : MeasureForm). FitsForm n f.size g c) e h)
+
+least_there : (n : ℕ) (fs : List CellField) (cells : List Cell) (i : ℕ) → EachFits (FitsCell n) fs cells → slice_get (map form_in fs) i ≡ Some measure.Min → (v : ℤ) × IsAt cells i Min v
 least_there n [] cells i h e = absurd cc
 least_there n (f ∷ fs) [] i h e = absurd h
 least_there n (f ∷ fs) (c ∷ cells) zero h e =
-    let same : f ≡ form.Min = cc in
+    let same : f.form ≡ measure.Min = cc in
     let own = least_cell n f c same h.0 in
     (own.0, record { at = own.1.0; is = ap Some own.1.1.0; value = own.1.1.1 })
 least_there n (f ∷ fs) (c ∷ cells) (suc i) h e = let own = least_there n fs cells i h.1 e in (own.0, record { at = own.1.at; is = own.1.is; value = own.1.value })
 
-greatest_there : (n : ℕ) (fs : List CellForm) (cells : List Cell) (i : ℕ) → EachFits (FitsCell n) fs cells → slice_get fs i ≡ Some form.Max → (v : ℤ) × IsAt cells i Max v
+greatest_there : (n : ℕ) (fs : List CellField) (cells : List Cell) (i : ℕ) → EachFits (FitsCell n) fs cells → slice_get (map form_in fs) i ≡ Some measure.Max → (v : ℤ) × IsAt cells i Max v
 greatest_there n [] cells i h e = absurd cc
 greatest_there n (f ∷ fs) [] i h e = absurd h
 greatest_there n (f ∷ fs) (c ∷ cells) zero h e =
-    let same : f ≡ form.Max = cc in
+    let same : f.form ≡ measure.Max = cc in
     let own = greatest_cell n f c same h.0 in
     (own.0, record { at = own.1.0; is = ap Some own.1.1.0; value = own.1.1.1 })
 greatest_there n (f ∷ fs) (c ∷ cells) (suc i) h e = let own = greatest_there n fs cells i h.1 e in (own.0, record { at = own.1.at; is = own.1.is; value = own.1.value })
@@ -163,7 +164,7 @@ no_more a b e = grind (arith, ints)
 no_more_again : (a b : ℤ) → a ≤ℤ b → int_le a b ≡ true
 no_more_again a b h = grind (arith, ints)
 
-ends_ordered : (fs : List CellForm) (e : Extremes) (x : AreExtremes fs e) (cells : List Cell) (low high : ℤ) → Ends (suc x.least) (suc x.greatest) cells low high
+ends_ordered : (fs : List CellField) (e : Extremes) (x : AreExtremes fs e) (cells : List Cell) (low high : ℤ) → Ends (suc x.least) (suc x.greatest) cells low high
     → are_ordered cells e ≡ int_le low high
 ends_ordered fs e x cells low high h =
     let a : value_in (slice_get cells e.least) ≡ low = ap (λ k. value_in (slice_get cells k)) x.at_least ∙ ap value_in h.lower_at ∙ ap (λ o. unwrap_or o (pos 0)) h.low_is in
@@ -171,7 +172,7 @@ ends_ordered fs e x cells low high h =
     λ k. int_le (a k) (b k)
 
 -- the ends of a row
-row_ends : (n : ℕ) (fs : List CellForm) (e : Extremes) (x : AreExtremes fs e) (cells : List Cell) → AreCells n fs cells → (low : ℤ) × ((high : ℤ) × Ends (suc x.least) (suc x.greatest) cells low high)
+row_ends : (n : ℕ) (fs : List CellField) (e : Extremes) (x : AreExtremes fs e) (cells : List Cell) → AreCells n fs cells → (low : ℤ) × ((high : ℤ) × Ends (suc x.least) (suc x.greatest) cells low high)
 row_ends n fs e x [] h = absurd h
 row_ends n fs e x (Count k ∷ cells) h =
     let a = least_there n fs cells x.least h.1 x.is_least in
@@ -179,18 +180,18 @@ row_ends n fs e x (Count k ∷ cells) h =
     (a.0, (b.0, record { lower = a.1.at; upper = b.1.at; lower_at = a.1.is; upper_at = b.1.is; low_is = a.1.value; high_is = b.1.value }))
 row_ends n fs e x (c ∷ cells) h = absurd h
 
-none_at : (fs : List CellForm) (i : ℕ) (f : CellForm) → slice_get fs i ≡ Some f → slice_get (map no_cell (map measure_of fs)) i ≡ Some (no_cell (measure_of f))
+none_at : (forms : List MeasureForm) (i : ℕ) (f : MeasureForm) → slice_get forms i ≡ Some f → slice_get (map no_cell forms) i ≡ Some (no_cell f)
 none_at [] i f e = absurd cc
-none_at (g ∷ fs) zero f e = let same : g ≡ f = cc in ap (λ h. Some (no_cell (measure_of h))) same
-none_at (g ∷ fs) (suc i) f e = none_at fs i f e
+none_at (g ∷ forms) zero f e = let same : g ≡ f = cc in ap (λ h. Some (no_cell h)) same
+none_at (g ∷ forms) (suc i) f e = none_at forms i f e
 
 -- the ends of a row alone are those of its group
-alone_ends : (fs : List CellForm) (e : Extremes) (x : AreExtremes fs e) (cells : List Cell) (low high : ℤ) → Ends (suc x.least) (suc x.greatest) cells low high
+alone_ends : (fs : List CellField) (e : Extremes) (x : AreExtremes fs e) (cells : List Cell) (low high : ℤ) → Ends (suc x.least) (suc x.greatest) cells low high
     → Ends (suc x.least) (suc x.greatest) (merged fs (cells ∷ [])) low high
 alone_ends fs e x cells low high h =
-    let none : List Cell = Count 0 ∷ map no_cell (map measure_of fs) in
-    let at_low = merged_at cells none (suc x.least) (Min h.lower) (Min (least_of [])) h.lower_at (none_at fs x.least form.Min x.is_least) in
-    let at_high = merged_at cells none (suc x.greatest) (Max h.upper) (Max (greatest_of [])) h.upper_at (none_at fs x.greatest form.Max x.is_greatest) in
+    let none : List Cell = Count 0 ∷ map no_cell (map form_in fs) in
+    let at_low = merged_at cells none (suc x.least) (Min h.lower) (Min (least_of [])) h.lower_at (none_at (map form_in fs) x.least measure.Min x.is_least) in
+    let at_high = merged_at cells none (suc x.greatest) (Max h.upper) (Max (greatest_of [])) h.upper_at (none_at (map form_in fs) x.greatest measure.Max x.is_greatest) in
     record {
       lower = record { items = h.lower.items + 0; value = picked int_min h.lower.value None };
       upper = record { items = h.upper.items + 0; value = picked int_max h.upper.value None };
@@ -216,7 +217,7 @@ between low high low' high' h k = omega (arith, ints, clamps)
 abbrev OrderedAt : Extremes → List Cell → Type 0
 OrderedAt e cells = are_ordered cells e ≡ true
 
-group_ends : (most : ℕ) (fs : List CellForm) (e : Extremes) (x : AreExtremes fs e) (c : List Cell) (rows : List (List Cell)) → FitsCells most fs c → AllByRecursion (FitsCells most fs) rows
+group_ends : (most : ℕ) (fs : List CellField) (e : Extremes) (x : AreExtremes fs e) (c : List Cell) (rows : List (List Cell)) → FitsCells most fs c → AllByRecursion (FitsCells most fs) rows
     → OrderedAt e c → AllByRecursion (OrderedAt e) rows
     → (low : ℤ) × ((high : ℤ) × (Ends (suc x.least) (suc x.greatest) (merged fs (c ∷ rows)) low high × (low ≤ℤ high)))
 group_ends most fs e x c [] one all up ups =
@@ -237,7 +238,7 @@ group_ends most fs e x c (d ∷ rows) one all up ups =
       ),
     )
 
-group_ordered_at : (most : ℕ) (fs : List CellForm) (e : Extremes) → AreExtremes fs e → (rows : List (List Cell)) → 0 < length rows → AllByRecursion (FitsCells most fs) rows → AllByRecursion (OrderedAt e) rows
+group_ordered_at : (most : ℕ) (fs : List CellField) (e : Extremes) → AreExtremes fs e → (rows : List (List Cell)) → 0 < length rows → AllByRecursion (FitsCells most fs) rows → AllByRecursion (OrderedAt e) rows
     → are_ordered (merged fs rows) e ≡ true
 group_ordered_at most fs e x [] some all ups = absurd (omega arith)
 group_ordered_at most fs e x (c ∷ rows) some all ups =
@@ -261,7 +262,7 @@ first_ordered e es (c ∷ rows) all =
     let rest = first_ordered e es rows all.1 in
     ((own.0, rest.0), (own.1, rest.1))
 
-group_ordered : (most : ℕ) (fs : List CellForm) (es : List Extremes) → AllByRecursion (AreExtremes fs) es → (rows : List (List Cell)) → 0 < length rows → AllByRecursion (FitsCells most fs) rows
+group_ordered : (most : ℕ) (fs : List CellField) (es : List Extremes) → AllByRecursion (AreExtremes fs) es → (rows : List (List Cell)) → 0 < length rows → AllByRecursion (FitsCells most fs) rows
     → AllByRecursion (Ordered es) rows → Ordered es (merged fs rows)
 group_ordered most fs [] xs rows some all ups = refl
 group_ordered most fs (e ∷ es) xs rows some all ups =
@@ -380,14 +381,14 @@ module _ (key : Row → List ℕ) where
         later true b e = refl
         later false b e = e
 
-  groups_are : (P : List ℕ × List Cell → Type 0) (fs : List CellForm) (rows : List Row) (ks : List (List ℕ))
+  groups_are : (P : List ℕ × List Cell → Type 0) (fs : List CellField) (rows : List Row) (ks : List (List ℕ))
       → ((k : List ℕ) → list_any (in_group k) rows ≡ true → P (k, merged fs (cells_at rows k)))
       → AllByRecursion (λ (e : Row). list_any (in_group e.0) rows ≡ true) (map (λ k. (k, merged fs (cells_at rows k))) ks) → AllByRecursion P (map (λ k. (k, merged fs (cells_at rows k))) ks)
   groups_are P fs rows [] each all = tt
   groups_are P fs rows (k ∷ ks) each all = (each k all.0, groups_are P fs rows ks each all.1)
 
   -- what holds of the group of each key that a row has holds of all groups
-  pub all_groups : (P : Row → Type 0) (fs : List CellForm) (rows : List Row) → ((k : List ℕ) → list_any (in_group k) rows ≡ true → P (k, merged fs (cells_at rows k)))
+  pub all_groups : (P : Row → Type 0) (fs : List CellField) (rows : List Row) → ((k : List ℕ) → list_any (in_group k) rows ≡ true → P (k, merged fs (cells_at rows k)))
       → AllByRecursion P (grouped key_cmp key (λ (row : Row). row.1) (merged fs) rows)
   all_groups P fs rows each =
       groups_are P fs rows (distinct key_cmp (map key rows)) each
@@ -408,7 +409,7 @@ module _ (key : Row → List ℕ) where
   weights_at : List Row → List ℕ → List ℕ
   weights_at rows k = values_at key_cmp key weight rows k
 
-  group_counts : (most : ℕ) (fs : List CellForm) (rows : List Row) (k : List ℕ) → AllByRecursion (λ (row : Row). FitsCells most fs row.1) rows
+  group_counts : (most : ℕ) (fs : List CellField) (rows : List Row) (k : List ℕ) → AllByRecursion (λ (row : Row). FitsCells most fs row.1) rows
       → count_in (merged fs (cells_at rows k)) ≡ sum (weights_at rows k)
   unfolding weights_at
   group_counts most fs rows k all =
@@ -416,7 +417,7 @@ module _ (key : Row → List ℕ) where
       counted (sum_by count_in (cells_at rows k)) fs (merged fs (cells_at rows k)) (group_has most fs (cells_at rows k) (kept (FitsCells most fs) k rows all))
       ∙ sum_mapped count_in (λ (row : Row). row.1) own ∙ sym (sum-map weight own)
 
-  groups_count : (most : ℕ) (fs : List CellForm) (rows : List Row) (ks : List (List ℕ)) → AllByRecursion (λ (row : Row). FitsCells most fs row.1) rows
+  groups_count : (most : ℕ) (fs : List CellField) (rows : List Row) (ks : List (List ℕ)) → AllByRecursion (λ (row : Row). FitsCells most fs row.1) rows
       → sum_by weight (map (λ k. (k, merged fs (cells_at rows k))) ks) ≡ sum_by (λ (m : ℕ × ℕ). m.1) (map (λ (c : List ℕ × (ℕ × ℕ)). c.1) (map (λ k. (k, weighed (weights_at rows k))) ks))
   groups_count most fs rows [] all = refl
   groups_count most fs rows (k ∷ ks) all =
@@ -426,7 +427,7 @@ module _ (key : Row → List ℕ) where
       let right = sum_by-cons (λ (m : ℕ × ℕ). m.1) (weighed (weights_at rows k)) (map (λ (c : List ℕ × (ℕ × ℕ)). c.1) (map (λ k. (k, weighed (weights_at rows k))) ks)) in
       left ∙ (λ i. one i + rest i) ∙ sym right
 
-  all_counted : (most : ℕ) (fs : List CellForm) (rows : List Row) → AllByRecursion (λ (row : Row). FitsCells most fs row.1) rows
+  all_counted : (most : ℕ) (fs : List CellField) (rows : List Row) → AllByRecursion (λ (row : Row). FitsCells most fs row.1) rows
       → sum_by weight (grouped key_cmp key (λ (row : Row). row.1) (merged fs) rows) ≡ sum_by weight rows
   unfolding weights_at
   all_counted most fs rows all =

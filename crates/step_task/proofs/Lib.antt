@@ -6,8 +6,10 @@ pub mod DictFits
 pub mod ExtremeFacts
 pub mod FlatFits
 pub mod GroupFits
+pub mod KeptFits
 pub mod LayerFits
 pub mod MadeFacts
+pub mod NumberFits
 pub mod ProductFacts
 pub mod RowFits
 pub mod TaskFacts

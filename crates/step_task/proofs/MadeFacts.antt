@@ -1,7 +1,7 @@
 -- What the step of a valid task wants, and that what it gives is the task's product.
 use Rattle.std.specs.Prelude.{Result, IfOk}
 use Rattle.step_files.specs.declared.product.Product.{Product}
-use Rattle.std.proofs.Common.{◌≡◌, ◌≤◌, ◌<◌, ◌^◌, ◌∙◌, ℕ, true, IsErrOf, Err, Ok, List, length, sym, ap, subst, arith}
+use Rattle.std.proofs.Common.{◌≡◌, ◌≤◌, ◌<◌, ◌^◌, ℕ, true, IsErrOf, Ok, List, length, sym, ap, subst, arith}
 use Rattle.agg_group.specs.declared.mask.Mask.{Mask}
 use Rattle.agg_group.specs.Mask.{IsRising}
 use Rattle.agg_group.proofs.BuiltLemmas.{built_rises}
@@ -10,7 +10,7 @@ use Rattle.cube_desc.specs.Cube.{Cube}
 use Rattle.cube_desc.specs.Sound.{IsSound}
 use Rattle.cube_desc.proofs.SoundFacts.{sound}
 use Rattle.cube_val.specs.declared.val.Val.{Val}
-use Rattle.flat_join.specs.Flat.{AreTablesOf, flat_of}
+use Rattle.flat_join.specs.Flat.{AreTablesOf}
 use Rattle.measure_laws.specs.Measures.{most_items}
 use Rattle.range_list.specs.Ranges.{Interval}
 use Rattle.step_codec.specs.Bodies.{FitsAllLoaded, FitsHolding, FitsLayer}
@@ -25,8 +25,8 @@ use Rattle.step_files.specs.declared.task.Task.TheVariants as task
 use Rattle.step_task.specs.Steps.{cube_in, step_compute}
 use Rattle.step_task.proofs.CubeFacts.{are_tables, described, layout_is_of}
 use Rattle.step_task.proofs.TaskFacts.{dicts_counted, parents_are}
-use Rattle.cube_desc.specs.FlatRow.{dict_places}
-use Rattle.step_compute.specs.Values.{HasParents, base_value, dict_value, layer_value}
+use Rattle.cube_desc.specs.Kept.{dict_places}
+use Rattle.step_compute.specs.Values.{HasParents}
 
 -- ---- results
 

@@ -1,5 +1,5 @@
 -- What the step of a valid task makes is a product of it.
-use Rattle.std.proofs.Common.{ℕ, List, length, map, refl, subst, sym}
+use Rattle.std.proofs.Common.{ℕ, List, drop, length, map, refl, subst, sym}
 use Rattle.agg_group.specs.declared.mask.Mask.{Mask}
 use Rattle.agg_group.specs.Mask.{IsRising}
 use Rattle.agg_group.proofs.BuiltLemmas.{built_rises}
@@ -13,7 +13,8 @@ use Rattle.step_codec.specs.Bodies.{FitsAllLoaded, FitsHolding, FitsLayer}
 use Rattle.step_codec.specs.Layouts.{base_mask, layer_masks, parent_masks, row_limit, size_limit, table_form}
 use Rattle.step_codec.specs.declared.layout.Layout.{Layout}
 use Rattle.step_codec.proofs.LayerFacts.{small_at}
-use Rattle.step_files.specs.Cubes.{kept_measures, layout_of}
+use Rattle.step_files.specs.Cubes.{layout_of}
+use Rattle.cube_desc.specs.Kept.{kept_behind}
 use Rattle.step_files.specs.Products.{FitsProduct}
 use Rattle.step_files.specs.Tasks.{FitsFlat, FitsTask}
 use Rattle.step_files.specs.declared.task.Task.{Task}
@@ -23,7 +24,7 @@ use Rattle.step_task.specs.Steps.{cube_in, step_compute}
 use Rattle.step_task.proofs.BaseFits.{base_fits}
 use Rattle.step_task.proofs.CubeFacts.{described, layout_is_of}
 use Rattle.step_task.proofs.DictFits.{dicts_hold}
-use Rattle.step_task.proofs.ExtremeFacts.{are_extremes_at, no_count, others}
+use Rattle.step_task.proofs.ExtremeFacts.{are_extremes_at}
 use Rattle.step_task.proofs.FlatFits.{flat_fits}
 use Rattle.step_task.proofs.LayerFits.{layer_fits}
 use Rattle.step_task.proofs.TaskFacts.{parents_are}
@@ -32,12 +33,12 @@ use Rattle.step_compute.specs.Values.{base_value, dict_value, layer_value}
 -- the cuboids of a layer of a cube
 layer_of_cube : (c : Cube) → IsSound c → (dims : ℕ) (sizes : List ℕ) (parents : List CellRows) → FitsLayer (layout_of c) (dims, (sizes, parents))
     → FitsTables (table_form (layout_of c) sizes 1) (layer_masks (layout_of c).masks dims) (layer_value c.masks dims parents)
-unfolding layout_of kept_measures
+unfolding layout_of
 layer_of_cube c s dims sizes parents h =
     let rising : IsRising c.masks = subst (λ (ms : List Mask). IsRising ms) (sym s.masks) (built_rises (length c.rowkey) c.groups) in
     let f = table_form (layout_of c) sizes 1 in
     layer_fits f c.masks dims (parent_masks c.masks dims) parents rising (λ i. small_at c.masks i (layout_holds c s).masks) h.1.1
-    (parents_are c.masks dims f parents rising h.1.1) (are_extremes_at sizes (length c.rowkey) (others c.measures) (no_count c.measures))
+    (parents_are c.masks dims f parents rising h.1.1) (are_extremes_at (drop (length c.rowkey) sizes) (kept_behind c))
 
 pub made_products : (t : Task) → FitsTask t → FitsProduct t (step_compute t)
 made_products (task.Flat desc range tables) h =
@@ -46,8 +47,9 @@ made_products (task.Flat desc range tables) h =
     subst (λ (l : Layout). FitsFlat l (flat_of (cube_in desc) tables range)) (sym lay)
     (flat_fits (cube_in desc) s tables (subst (λ (l : Layout). FitsAllLoaded l tables) lay h.1.1) range)
 made_products (task.Dict desc flat) h =
+    let s = sound desc (cube_in desc) (described desc h.0.1) in
     let lay = layout_is_of desc h.0.1 in
-    subst (λ (l : Layout). FitsHolding l row_limit flat (dict_value (cube_in desc) flat)) (sym lay) (dicts_hold (cube_in desc) flat (subst (λ (l : Layout). FitsFlat l flat) lay h.1))
+    subst (λ (l : Layout). FitsHolding l row_limit flat (dict_value (cube_in desc) flat)) (sym lay) (dicts_hold (cube_in desc) s flat (subst (λ (l : Layout). FitsFlat l flat) lay h.1))
 made_products (task.Base desc flat dicts) h =
     let s = sound desc (cube_in desc) (described desc h.0.1) in
     let lay = layout_is_of desc h.0.1 in

@@ -1,95 +1,51 @@
 -- A flat row alone: its key, and its cells.
-use Rattle.std.proofs.Common.{◌≡◌, ◌≤◌, ◌<◌, ◌+◌, ◌*◌, ◌^◌, ◌++◌, ◌∙◌, ℕ, zero, suc, Bool, true, false, cond, List, [], ◌∷◌, length, Option, Some, None, map, refl, sym, ap, subst, arith}
-use Rattle.std.specs.Prelude.{◌||◌, ℤ, ◌+ℤ◌, pos, FitsSigned, int_le, nat_abs, not, slice_get, slice_index_or, take}
-use Rattle.std.specs.Int.{w64}
-use Rattle.std.specs.Int.Signed.{nat_abs-le}
-use Rattle.std.specs.List.{filter_map, range_with_len}
-use Rattle.std.specs.Ordering.{eq_by_cmp, is_eq, is_lt}
-use Rattle.std.specs.declared.cmp.Ordering.{Ordering}
-use Rattle.std.specs.declared.cmp.Ordering.TheVariants.{Less, Equal, Greater}
+use Rattle.std.proofs.Common.{◌≡◌, ◌≤◌, ◌<◌, ◌+◌, ◌^◌, ◌++◌, ◌∙◌, ℕ, zero, suc, Bool, true, false, cond, List, [], ◌∷◌, length, get_or, Option, Some, None, map, refl, sym, ap, subst, arith, inl, inr}
+use Rattle.std.specs.Prelude.{◌⊎◌, ℤ, drop, int_le, slice_get, slice_index_or, take}
+use Rattle.std.specs.List.{AllByRecursion, cons_option, filter_map, range_with_len}
 use Rattle.std.proofs.lemmas.Bool.{eqb-true}
 use Rattle.std.proofs.lemmas.Int.{ints}
-use Rattle.std.proofs.lemmas.List.Sums.{count_by-le-length, sum_by-cons}
+use Rattle.std.proofs.lemmas.List.{drop-drop}
 use Rattle.agg_group.specs.Sets.{dimensions}
-use Rattle.aggregation.proofs.GroupFacts.{itself, tied}
 use Rattle.byte_frame.specs.Spelling.{EachFits}
-use Rattle.cell_gather.specs.Gathers.{cell_of_form, cells_of}
+use Rattle.cell_gather.specs.Gathers.{cell_of, cells_of}
+use Rattle.cell_store.specs.Cells.{cell_of_items}
 use Rattle.cell_store.specs.declared.cell.Cell.{Cell}
 use Rattle.cell_store.specs.declared.cell.Cell.TheVariants.{Count}
+use Rattle.cell_store.specs.declared.cell.RowItem.{RowItem}
 use Rattle.cube_desc.specs.Cube.{Cube}
-use Rattle.cube_desc.specs.declared.desc.MeasureDesc.{MeasureDesc}
+use Rattle.cube_desc.specs.FlatRow.{place_of}
+use Rattle.cube_desc.specs.Kept.{dict_place}
+use Rattle.cube_desc.specs.Sound.{IsSound}
+use Rattle.cube_desc.specs.declared.kept.Kept.{Kept}
+use Rattle.cube_desc.proofs.KeptFacts.{IsKept}
 use Rattle.cube_fields.specs.Cells.{FitsCell, FitsCells, FitsId, are_ordered, value_in}
 use Rattle.cube_fields.specs.Dicts.{FitsDict}
+use Rattle.cube_fields.proofs.MergeFits.{alone_fits}
 use Rattle.cube_val.specs.declared.val.Val.{Val}
 use Rattle.cube_val.specs.declared.val.Val.TheVariants as val
-use Rattle.cube_val.specs.Order.{number_of, val_cmp}
-use Rattle.cube_val.specs.OrderLaws.{val_cmp_total}
-use Rattle.cube_val.specs.Values.{IsValue}
-use Rattle.cube_val.proofs.OrderFacts.{val_cmp_exact}
-use Rattle.layer_builder.specs.Base.{dict_at, form_of_kind, key_in, measures_from, next_after, number_in, value_at}
-use Rattle.measure_laws.specs.Measures.{most_of_item}
+use Rattle.cube_val.specs.Order.{number_of}
+use Rattle.layer_builder.specs.Base.{dict_at, item_of, key_in, measure_of, measures_from, next_after, number_in, value_at}
+use Rattle.measure_laws.specs.declared.kinds.ItemKind.{ItemKind}
+use Rattle.measure_laws.specs.declared.kinds.ItemKind.TheVariants.{Rows, Values, Numbers, Ids}
 use Rattle.measure_laws.specs.declared.measure.MeasureForm.{MeasureForm}
 use Rattle.measure_laws.specs.declared.measure.MeasureForm.TheVariants as measure
+use Rattle.measure_laws.specs.Kinds.{are_ids, counts_rows, dict_after, item_kind, place_after}
+use Rattle.plain_answer.specs.declared.ask.Agg.{Agg}
 use Rattle.plain_answer.specs.Aggregates.{cell}
+use Rattle.plain_answer.specs.Kinds.{kind_of_form}
+use Rattle.plain_answer.proofs.KindFacts.{kept_form}
 use Rattle.step_codec.specs.Bodies.{holds, is_in}
-use Rattle.step_codec.specs.Layouts.{cell_form, dict_form}
+use Rattle.step_codec.specs.Layouts.{dict_form, field_of, fields_of, size_for, sizes_after}
 use Rattle.step_codec.specs.declared.layout.DictColumn.{DictColumn}
-use Rattle.step_codec.specs.declared.layout.KeptForm.TheVariants as forms
-use Rattle.step_fields.specs.Fits.{FitsRow}
-use Rattle.step_fields.specs.declared.column.Column.{Column}
-use Rattle.cube_desc.specs.FlatRow.{distinct_place, is_count, place_of}
-use Rattle.step_files.specs.Cubes.{forms_from, is_same, kept_of}
-use Rattle.step_compute.specs.Columns.{agg_of, kind_of}
+use Rattle.step_fields.specs.Fits.{FitsColumn, FitsRow}
+use Rattle.step_files.specs.Cubes.{flat_columns, is_same, no_column}
+use Rattle.step_compute.specs.Columns.{agg_of}
 use Rattle.table_reader.specs.Keys.{val_at}
 use Rattle.step_task.proofs.DictFits.{cell_is}
-use Rattle.step_task.proofs.ExtremeFacts.{ArePair, others}
+use Rattle.step_task.proofs.ExtremeFacts.{ArePair, forms_kept}
 use Rattle.step_task.proofs.FlatFits.{value_fits}
-
--- ---- values
-
--- each value of a row that fits is one, and so is the null past its end
-pub valid : (columns : List Column) (row : List Val) (place : ℕ) → FitsRow columns row → IsValue (cell row place)
-valid columns row place h = subst IsValue (sym (cell_is row place)) (value_fits columns row place h).is_value
-
-number_fits : (v : Val) → IsValue v → FitsSigned w64 (number_of v)
-number_fits val.Null h = record { sfits = omega arith }
-number_fits (val.Int n) h = h
-number_fits (val.Text t) h = record { sfits = omega arith }
-
-number_small : (v : Val) → IsValue v → nat_abs (number_of v) ≤ 2 ^ 63
-number_small v h = nat_abs-le (number_of v) (number_fits v h).sfits
-
--- ---- numbers of values
-
-not_less : (o : Ordering) → is_eq o ≡ true → is_lt o ≡ false
-not_less Less e = absurd cc
-not_less Equal e = refl
-not_less Greater e = absurd cc
-
-same_not_less : (x v : Val) → eq_by_cmp val_cmp v x ≡ true → is_lt (val_cmp x v) ≡ false
-same_not_less x v e =
-    let same : v ≡ x = tied val_cmp_total val_cmp_exact v x e in
-    subst (λ (u : Val). is_lt (val_cmp x u) ≡ false) (sym same) (not_less (val_cmp x x) (itself val_cmp_total val_cmp_exact x))
-
-abbrev one_if : Bool → ℕ
-one_if b = cond b 1 0
-
--- a value that is in a dictionary has a number below its length
-pub number_below : (dict : List Val) (v : Val) → is_in dict v ≡ true → number_in dict v < length dict
-number_below [] v e = absurd cc
-number_below (x ∷ dict) v e = by (eq_by_cmp val_cmp v x) refl e (number_below dict v) where
-  step : number_in (x ∷ dict) v ≡ one_if (is_lt (val_cmp x v)) + number_in dict v
-  step = sum_by-cons (λ (w : Val). one_if (is_lt (val_cmp w v))) x dict
-
-  least : (b : Bool) → one_if b ≤ 1
-  least true = omega arith
-  least false = omega arith
-
-  by : (b : Bool) → eq_by_cmp val_cmp v x ≡ b → (b || is_in dict v) ≡ true → (is_in dict v ≡ true → number_in dict v < length dict) → number_in (x ∷ dict) v < length (x ∷ dict)
-  by true is e rest =
-      let none : one_if (is_lt (val_cmp x v)) ≡ 0 = ap one_if (same_not_less x v is) in
-      omega (arith, step, none, count_by-le-length (λ (w : Val). is_lt (val_cmp w v)) dict)
-  by false is e rest = omega (arith, step, least (is_lt (val_cmp x v)), rest e)
+use Rattle.step_task.proofs.KeptFits.{TakesItem, kept_column, kept_item}
+use Rattle.step_task.proofs.NumberFits.{number_below}
 
 -- ---- places
 
@@ -153,87 +109,113 @@ key_fits dicts w row small held = each_in_range (λ d. slice_index_or (take w (m
 
 -- ---- the cells
 
--- what a measure of a form makes of a row alone
-abbrev cell_alone : MeasureForm → ℕ → List Val → List Val → Cell
-cell_alone f place dict row = cell_of_form (form_of_kind (kind_of f)) (λ (r : List Val). number_of (value_at (Some place) r)) (λ (r : List Val). number_in dict (value_at (Some place) r)) (row ∷ [])
-
-sum_small : (z : ℤ) → nat_abs z ≤ 2 ^ 63 → nat_abs (z +ℤ pos 0) ≤ 1 * most_of_item
-sum_small z h = let same : z +ℤ pos 0 ≡ z = omega (arith, ints) in omega (arith, ap nat_abs same, h)
-
-module _ (dicts : List (List Val)) (row : List Val) (small : (i : ℕ) → length (dict_at dicts i) < 2 ^ 32) (values : (place : ℕ) → IsValue (cell row place)) where
-  abbrev sizes : List ℕ
+module _ (dicts : List (List Val)) (row : List Val) where
+  abbrev pub sizes : List ℕ
   sizes = map length dicts
 
-  sum_fits : (place d : ℕ) → FitsCell 1 (cell_form sizes (forms.Sum)) (cell_alone measure.Sum place (dict_at dicts d) row)
-  sum_fits place d = (refl, sum_small (number_of (cell row place)) (number_small (cell row place) (values place)))
+  -- a kept measure takes an item of the row, where its dictionary is the one at a place
+  abbrev pub TakesOwn : Cube → ℕ → Kept → Type 0
+  TakesOwn c d k = TakesItem (item_kind k.form) (dict_at dicts d) (cell row (place_of c k.column))
 
-  least_fits : (place d : ℕ) → FitsCell 1 (cell_form sizes (forms.Min)) (cell_alone measure.Min place (dict_at dicts d) row)
-  least_fits place d = (refl, (number_of (cell row place), (refl, number_fits (cell row place) (values place))))
+  abbrev pub TakesAll : Cube → ℕ → List Kept → Type 0
+  TakesAll c d [] = Unit {0}
+  TakesAll c d (k ∷ ks) = TakesOwn c d k × TakesAll c (dict_after k.form d) ks
 
-  greatest_fits : (place d : ℕ) → FitsCell 1 (cell_form sizes (forms.Max)) (cell_alone measure.Max place (dict_at dicts d) row)
-  greatest_fits place d = (refl, (number_of (cell row place), (refl, number_fits (cell row place) (values place))))
+  abbrev one_cell : ℕ → Agg → Cell
+  one_cell d agg = cell_of (measure_of agg (dict_at dicts d)) (row ∷ [])
 
-  ids_fit : (place d : ℕ) → is_in (dict_at dicts d) (cell row place) ≡ true → FitsCell 1 (cell_form sizes (forms.Distinct d)) (cell_alone measure.Distinct place (dict_at dicts d) row)
-  ids_fit place d e =
-      let below = number_below (dict_at dicts d) (cell row place) e in
-      (refl, (omega arith, (omega arith, ((omega (arith, below, size_at dicts d), omega (arith, below, small d)), tt))))
+  -- the cell of a row alone is that of its one item
+  alone_is : (c : Cube) (d : ℕ) (k : Kept) (takes : TakesOwn c d k) → one_cell d (agg_of c k) ≡ cell_of_items k.form (takes.item ∷ [])
+  alone_is c d k takes =
+      (λ i. cell_of_items (kept_form k.form i) (filter_map (λ (r : List Val). item_of (item_kind (kept_form k.form i)) (dict_at dicts d) (value_at (Some (place_of c k.column)) r)) (row ∷ [])))
+      ∙ ap (λ (o : Option RowItem). cell_of_items k.form (cons_option o [])) takes.is
 
-  -- the values of counted columns are in the dictionaries from a number on
-  abbrev Held : Cube → ℕ → List MeasureDesc → Type 0
-  Held c d ms = (i place : ℕ) → slice_get (filter_map (distinct_place c) ms) i ≡ Some place → is_in (dict_at dicts (d + i)) (cell row place) ≡ true
+  -- the size of the dictionary of a measure of ids
+  own_size : (k : ItemKind) (d : ℕ) → are_ids k ≡ true → size_for k (drop d sizes) ≡ length (dict_at dicts d)
+  own_size Rows d e = absurd cc
+  own_size Values d e = absurd cc
+  own_size Numbers d e = absurd cc
+  own_size Ids d e = first_left sizes d ∙ size_at dicts d
+    where
+      first_left : (xs : List ℕ) (i : ℕ) → slice_index_or (drop i xs) 0 0 ≡ slice_index_or xs i 0
+      first_left xs zero = refl
+      first_left [] (suc i) = refl
+      first_left (x ∷ xs) (suc i) = first_left xs i
 
-  abbrev Alone : Cube → ℕ → List MeasureDesc → Type 0
-  Alone c d ms = EachFits (FitsCell 1) (map (cell_form sizes) (forms_from d (map kept_of ms))) (cells_of (measures_from dicts d (map (agg_of c) ms)) (row ∷ []))
+  -- the sizes behind it
+  sizes_left : (k : ItemKind) (d : ℕ) → sizes_after k (drop d sizes) ≡ drop (place_after k d) sizes
+  sizes_left Rows d = refl
+  sizes_left Values d = refl
+  sizes_left Numbers d = refl
+  sizes_left Ids d = drop-drop 1 d sizes
 
-  cells_alone : (c : Cube) (d : ℕ) (ms : List MeasureDesc) → Held c d ms → Alone c d (others ms)
-  cells_alone c d [] held = tt
-  cells_alone c d (m ∷ ms) held = by m.form held (λ k h. cells_alone c k ms h) where
-    by : (f : MeasureForm) → Held c d (record m { form = f } ∷ ms) → ((k : ℕ) → Held c k ms → Alone c k (others ms)) → Alone c d (cond (not (is_count f)) (record m { form = f } ∷ others ms) (others ms))
-    by measure.Count held rest = rest d held
-    by measure.Sum held rest = (sum_fits (place_of c m.column) d, rest d held)
-    by measure.Min held rest = (least_fits (place_of c m.column) d, rest d held)
-    by measure.Max held rest = (greatest_fits (place_of c m.column) d, rest d held)
-    by measure.Distinct held rest =
-        let first : d + 0 ≡ d = omega arith in (
-          ids_fit (place_of c m.column) d (subst (λ k. is_in (dict_at dicts k) (cell row (place_of c m.column)) ≡ true) first (held 0 (place_of c m.column) refl)),
-          rest (d + 1) (λ i place e. let next : d + suc i ≡ d + 1 + i = omega arith in subst (λ k. is_in (dict_at dicts k) (cell row place) ≡ true) next (held (suc i) place e)),
-        )
+  own_fits : (c : Cube) (d : ℕ) (k : Kept) → counts_rows k.form ≡ false → TakesOwn c d k → FitsCell 1 (field_of (drop d sizes) k.form) (one_cell d (agg_of c k))
+  own_fits c d k uncounted takes =
+      subst (FitsCell 1 (field_of (drop d sizes) k.form)) (sym (alone_is c d k takes))
+      (alone_fits (size_for (item_kind k.form) (drop d sizes)) k.form takes.item uncounted takes.number
+      (λ e. subst (λ n. FitsId n takes.item.id) (sym (own_size (item_kind k.form) d e)) (takes.id e)))
+
+  abbrev pub NoRows : List Kept → Type 0
+  NoRows ks = AllByRecursion (λ (k : Kept). counts_rows k.form ≡ false) ks
+
+  abbrev Alone : Cube → ℕ → List Kept → Type 0
+  Alone c d ks = EachFits (FitsCell 1) (fields_of (drop d sizes) (forms_kept ks)) (cells_of (measures_from dicts d (map (agg_of c) ks)) (row ∷ []))
+
+  -- each cell of the row alone fits its field
+  cells_alone : (c : Cube) (d : ℕ) (ks : List Kept) → NoRows ks → TakesAll c d ks → Alone c d ks
+  cells_alone c d [] none takes = tt
+  cells_alone c d (k ∷ ks) none takes =
+      let next : next_after (kind_of_form k.form) d ≡ dict_after k.form d = ap (λ (f : MeasureForm). dict_after f d) (kept_form k.form) in
+      let rest : Alone c (dict_after k.form d) ks = cells_alone c (dict_after k.form d) ks none.1 takes.1 in
+      let cells : List Cell = cells_of (measures_from dicts (next_after (kind_of_form k.form) d) (map (agg_of c) ks)) (row ∷ []) in
+      let same : cells_of (measures_from dicts (dict_after k.form d) (map (agg_of c) ks)) (row ∷ []) ≡ cells = ap (λ n. cells_of (measures_from dicts n (map (agg_of c) ks)) (row ∷ [])) (sym next) in (
+        own_fits c d k none.0 takes.0,
+        subst (λ (xs : List ℕ). EachFits (FitsCell 1) (fields_of xs (forms_kept ks)) cells) (sym (sizes_left (item_kind k.form) d))
+            (subst (EachFits (FitsCell 1) (fields_of (drop (dict_after k.form d) sizes) (forms_kept ks))) same rest),
+      )
 
   -- ---- least and greatest values
 
-  least_value : (f : MeasureForm) (place : ℕ) (dict : List Val) → f ≡ measure.Min → value_in (Some (cell_alone f place dict row)) ≡ number_of (cell row place)
-  least_value f place dict e = ap (λ (g : MeasureForm). value_in (Some (cell_alone g place dict row))) e
+  -- the value that a least or a greatest cell of a row alone has
+  abbrev value_there : Cube → ℕ → List Kept → ℕ → ℤ
+  value_there c d ks i = value_in (slice_get (cells_of (measures_from dicts d (map (agg_of c) ks)) (row ∷ [])) i)
 
-  greatest_value : (f : MeasureForm) (place : ℕ) (dict : List Val) → f ≡ measure.Max → value_in (Some (cell_alone f place dict row)) ≡ number_of (cell row place)
-  greatest_value f place dict e = ap (λ (g : MeasureForm). value_in (Some (cell_alone g place dict row))) e
+  -- it is the number of the item
+  own_value : (f : MeasureForm) (item : RowItem) → (f ≡ measure.Min) ⊎ (f ≡ measure.Max) → value_in (Some (cell_of_items f (item ∷ []))) ≡ item.number
+  own_value f item (inl e) = ap (λ (g : MeasureForm). value_in (Some (cell_of_items g (item ∷ [])))) e
+  own_value f item (inr e) = ap (λ (g : MeasureForm). value_in (Some (cell_of_items g (item ∷ [])))) e
 
-  abbrev value_there : Cube → ℕ → List MeasureDesc → ℕ → ℤ
-  value_there c d ms i = value_in (slice_get (cells_of (measures_from dicts d (map (agg_of c) ms)) (row ∷ [])) i)
+  -- .. which is that of the value
+  item_number : (dict : List Val) (v : Val) (item : RowItem) → item_of Numbers dict v ≡ Some item → item.number ≡ number_of v
+  item_number dict val.Null item e = absurd cc
+  item_number dict (val.Int n) item e = let same : (let own : RowItem = record { number = n; id = 0 } in own) ≡ item = cc in sym (ap (λ (x : RowItem). x.number) same)
+  item_number dict (val.Text t) item e = absurd cc
 
-  least_there : (c : Cube) (d : ℕ) (ms : List MeasureDesc) (i : ℕ) (k : MeasureDesc) → slice_get ms i ≡ Some k → k.form ≡ measure.Min → value_there c d ms i ≡ number_of (cell row (place_of c k.column))
-  least_there c d [] i k e is = absurd cc
-  least_there c d (m ∷ ms) zero k e is =
-      let same : m ≡ k = cc in
-      least_value m.form (place_of c m.column) (dict_at dicts d) (ap (λ (q : MeasureDesc). q.form) same ∙ is) ∙ ap (λ (q : MeasureDesc). number_of (cell row (place_of c q.column))) same
-  least_there c d (m ∷ ms) (suc i) k e is = least_there c (next_after (kind_of m.form) d) ms i k e is
+  kind_of_end : (f : MeasureForm) → (f ≡ measure.Min) ⊎ (f ≡ measure.Max) → item_kind f ≡ Numbers
+  kind_of_end f (inl e) = ap item_kind e
+  kind_of_end f (inr e) = ap item_kind e
 
-  greatest_there : (c : Cube) (d : ℕ) (ms : List MeasureDesc) (i : ℕ) (k : MeasureDesc) → slice_get ms i ≡ Some k → k.form ≡ measure.Max → value_there c d ms i ≡ number_of (cell row (place_of c k.column))
-  greatest_there c d [] i k e is = absurd cc
-  greatest_there c d (m ∷ ms) zero k e is =
-      let same : m ≡ k = cc in
-      greatest_value m.form (place_of c m.column) (dict_at dicts d) (ap (λ (q : MeasureDesc). q.form) same ∙ is) ∙ ap (λ (q : MeasureDesc). number_of (cell row (place_of c q.column))) same
-  greatest_there c d (m ∷ ms) (suc i) k e is = greatest_there c (next_after (kind_of m.form) d) ms i k e is
+  end_there : (c : Cube) (d : ℕ) (ks : List Kept) (i : ℕ) (k : Kept) → TakesAll c d ks → slice_get ks i ≡ Some k → (k.form ≡ measure.Min) ⊎ (k.form ≡ measure.Max) → value_there c d ks i ≡ number_of (cell row (place_of c k.column))
+  end_there c d [] i k takes e is = absurd cc
+  end_there c d (q ∷ ks) zero k takes e is =
+      let same : q ≡ k = cc in
+      let here : value_there c d (q ∷ ks) 0 ≡ takes.0.item.number = ap (λ (x : Cell). value_in (Some x)) (alone_is c d q takes.0) ∙ own_value q.form takes.0.item (subst (λ (x : Kept). (x.form ≡ measure.Min) ⊎ (x.form ≡ measure.Max)) (sym same) is) in
+      let kind : item_kind q.form ≡ Numbers = kind_of_end q.form (subst (λ (x : Kept). (x.form ≡ measure.Min) ⊎ (x.form ≡ measure.Max)) (sym same) is) in
+      let taken : item_of Numbers (dict_at dicts d) (cell row (place_of c q.column)) ≡ Some takes.0.item = ap (λ (n : ItemKind). item_of n (dict_at dicts d) (cell row (place_of c q.column))) (sym kind) ∙ takes.0.is in
+      here ∙ item_number (dict_at dicts d) (cell row (place_of c q.column)) takes.0.item taken ∙ ap (λ (x : Kept). number_of (cell row (place_of c x.column))) same
+  end_there c d (q ∷ ks) (suc i) k takes e is =
+      ap (λ n. value_there c n ks i) (ap (λ (f : MeasureForm). dict_after f d) (kept_form q.form)) ∙ end_there c (dict_after q.form d) ks i k takes.1 e is
 
   -- those of one column are the same
-  pub pair_ordered : (c : Cube) (d : ℕ) (ms : List MeasureDesc) (first : Cell) (i j : ℕ) → ArePair ms i j
-      → are_ordered (first ∷ cells_of (measures_from dicts d (map (agg_of c) ms)) (row ∷ [])) (record { least = i + 1; greatest = j + 1 }) ≡ true
-  pair_ordered c d ms first i j pair =
-      let cells : List Cell = first ∷ cells_of (measures_from dicts d (map (agg_of c) ms)) (row ∷ []) in
+  pub pair_ordered : (c : Cube) (d : ℕ) (ks : List Kept) (first : Cell) (i j : ℕ) → TakesAll c d ks → ArePair ks i j
+      → are_ordered (first ∷ cells_of (measures_from dicts d (map (agg_of c) ks)) (row ∷ [])) (record { least = i + 1; greatest = j + 1 }) ≡ true
+  pair_ordered c d ks first i j takes pair =
+      let cells : List Cell = first ∷ cells_of (measures_from dicts d (map (agg_of c) ks)) (row ∷ []) in
       let column = same_column pair.lower.column pair.upper.column pair.same in
       let low : value_in (slice_get cells (i + 1)) ≡ number_of (cell row (place_of c pair.upper.column)) =
-      ap (λ k. value_in (slice_get cells k)) (next i) ∙ least_there c d ms i pair.lower pair.lower_at pair.lower_is ∙ ap (λ (o : Option ℕ). number_of (cell row (place_of c o))) column in
+      ap (λ k. value_in (slice_get cells k)) (next i) ∙ end_there c d ks i pair.lower takes pair.lower_at (inl pair.lower_is) ∙ ap (λ (o : Option ℕ). number_of (cell row (place_of c o))) column in
       let high : value_in (slice_get cells (j + 1)) ≡ number_of (cell row (place_of c pair.upper.column)) =
-      ap (λ k. value_in (slice_get cells k)) (next j) ∙ greatest_there c d ms j pair.upper pair.upper_at pair.upper_is in
+      ap (λ k. value_in (slice_get cells k)) (next j) ∙ end_there c d ks j pair.upper takes pair.upper_at (inr pair.upper_is) in
       (λ t. int_le (low t) (high t)) ∙ itself_no_less (number_of (cell row (place_of c pair.upper.column)))
     where
       next : (i : ℕ) → i + 1 ≡ suc i
@@ -247,6 +229,37 @@ module _ (dicts : List (List Val)) (row : List Val) (small : (i : ℕ) → lengt
       same_column (Some a) None e = absurd cc
       same_column None b e = absurd cc
 
-  pub cells_fit : (c : Cube) (d most : ℕ) (ms : List MeasureDesc) → Held c d ms → 1 ≤ most
-      → FitsCells most (map (cell_form sizes) (forms_from d (map kept_of (others ms)))) (Count 1 ∷ cells_of (measures_from dicts d (map (agg_of c) (others ms))) (row ∷ []))
-  cells_fit c d most ms held some = ((omega arith, some), cells_alone c d ms held)
+  pub cells_fit : (c : Cube) (d most : ℕ) (ks : List Kept) → NoRows ks → TakesAll c d ks → 1 ≤ most
+      → FitsCells most (fields_of (drop d sizes) (forms_kept ks)) (Count 1 ∷ cells_of (measures_from dicts d (map (agg_of c) ks)) (row ∷ []))
+  cells_fit c d most ks none takes some = ((omega arith, some), cells_alone c d ks none takes)
+
+  -- ---- what the kept measures take
+
+  -- the values of the columns whose different values are kept are in the dictionaries from a number on
+  abbrev pub Held : Cube → ℕ → List Kept → Type 0
+  Held c d ks = (i place : ℕ) → slice_get (filter_map (dict_place c) ks) i ≡ Some place → is_in (dict_at dicts (d + i)) (cell row place) ≡ true
+
+  -- .. where the first measure is of items of a kind
+  abbrev HeldBy : Cube → ℕ → Kept → List Kept → ItemKind → Type 0
+  HeldBy c d k ks n = (i place : ℕ) → slice_get (cons_option (cond (are_ids n) (Some (place_of c k.column)) None) (filter_map (dict_place c) ks)) i ≡ Some place → is_in (dict_at dicts (d + i)) (cell row place) ≡ true
+
+  pub takes_all : (c : Cube) → IsSound c → ((i : ℕ) → length (dict_at dicts i) < 2 ^ 32) → FitsRow (flat_columns c) row → (d : ℕ) (ks : List Kept) → AllByRecursion (IsKept c) ks → Held c d ks → TakesAll c d ks
+  takes_all c s small fits d [] kept held = tt
+  takes_all c s small fits d (k ∷ ks) kept held =
+      let place = place_of c k.column in
+      let value = subst (FitsColumn (get_or (flat_columns c) place no_column)) (sym (cell_is row place)) (value_fits (flat_columns c) row place fits) in (
+        kept_item (item_kind k.form) (get_or (flat_columns c) place no_column) (dict_at dicts d) (cell row place) (kept_column c s k kept.0) value (first (item_kind k.form) held) (small d),
+        takes_all c s small fits (dict_after k.form d) ks kept.1 (rest (item_kind k.form) held),
+      )
+    where
+      first : (n : ItemKind) → HeldBy c d k ks n → are_ids n ≡ true → is_in (dict_at dicts d) (cell row (place_of c k.column)) ≡ true
+      first Rows h e = absurd cc
+      first Values h e = absurd cc
+      first Numbers h e = absurd cc
+      first Ids h e = let same : d + 0 ≡ d = omega arith in subst (λ m. is_in (dict_at dicts m) (cell row (place_of c k.column)) ≡ true) same (h 0 (place_of c k.column) refl)
+
+      rest : (n : ItemKind) → HeldBy c d k ks n → Held c (place_after n d) ks
+      rest Rows h = h
+      rest Values h = h
+      rest Numbers h = h
+      rest Ids h = λ i place e. let next : d + suc i ≡ d + 1 + i = omega arith in subst (λ m. is_in (dict_at dicts m) (cell row place) ≡ true) next (h (suc i) place e)

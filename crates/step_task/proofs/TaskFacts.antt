@@ -17,7 +17,7 @@ use Rattle.cuboid_tree.specs.Tree.{is_child, is_of_layer, is_place, parent_of, p
 use Rattle.cuboid_tree.proofs.Parents.{parent_is}
 use Rattle.step_codec.specs.Bodies.{FitsHolding}
 use Rattle.step_codec.specs.Layouts.{dict_forms, is_above_layer, parent_masks}
-use Rattle.cube_desc.specs.FlatRow.{dict_places}
+use Rattle.cube_desc.specs.Kept.{dict_places}
 use Rattle.step_files.specs.Cubes.{dict_column, flat_columns, layout_of}
 use Rattle.step_files.proofs.ShortFacts.{each_length}
 use Rattle.step_compute.specs.Values.{HasParents, has_mask, is_in_layer, parent_mask}

@@ -16,8 +16,7 @@ mod work;
 
 pub use laws::{steps_make_products, texts_are_of_tasks};
 pub use step_files::{
-    CuboidRows, DictColumn, DoneStep, KeptForm, Layout, Product, ProductRefusal, SealBody,
-    TableColumns, Task, TaskRefusal, layout, product_file, read_product, read_product_with,
-    read_task, task_text,
+    CuboidRows, DictColumn, DoneStep, Layout, Product, ProductRefusal, SealBody, TableColumns,
+    Task, TaskRefusal, layout, product_file, read_product, read_product_with, read_task, task_text,
 };
 pub use work::{CubeWork, run_step};

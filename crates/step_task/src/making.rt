@@ -6,7 +6,7 @@ ghost use Rattle.cube_val.specs.declared.val.Val.{Val};
 ghost use Rattle.flat_join.specs.Flat.{AreTablesOf, flat_of};
 ghost use Rattle.measure_laws.specs.Measures.{most_items};
 ghost use Rattle.step_files.specs.Tasks.{FitsTask, is_descriptor};
-ghost use Rattle.cube_desc.specs.FlatRow.{dict_places};
+ghost use Rattle.cube_desc.specs.Kept.{dict_places};
 ghost use Rattle.step_task.specs.Steps.{cube_in, step_compute};
 ghost use Rattle.step_compute.specs.Values.{HasParents, base_value, dict_value, layer_value};
 ghost use Rattle.step_compute.specs.Watched.{Looked, SawStop};

@@ -4,8 +4,8 @@ use Rattle.cell_store.specs.Cells.{items_of}
 use Rattle.cell_gather.proofs.LoopFacts.{items_at-get, merging_item, merging_set}
 use Rattle.cell_gather.proofs.merge.merge_cells.Goals as goal
 
-pub merge_cell-requires : goal.merge_cell-requires
-merge_cell-requires c =
+pub merge-requires : goal.merge-requires
+merge-requires c =
     let A = c.args.cells.now in
     let B = c.args.others.now in
     let k = c.loop-k.k in
@@ -18,5 +18,5 @@ merge_cell-requires c =
 
 pub loop-k-preserved : goal.loop-k-preserved
 loop-k-preserved c =
-    merging_set c.args.cells.now c.args.others.now c.loop-k.cells c.loop-k.k (omega arith) c.requires.width c.loop-k.invariant c.index-cells-k.result c.merge_cell.new.cell c.index-others-k.result c.index-others-k.is
-    c.in_ok-merge_cell.ensures
+    merging_set c.args.cells.now c.args.others.now c.loop-k.cells c.loop-k.k (omega arith) c.requires.width c.loop-k.invariant c.index-cells-k.result c.merge.new.self c.index-others-k.result c.index-others-k.is
+    c.in_ok-merge.ensures.ok

@@ -1,5 +1,5 @@
 use Rattle.std.proofs.Common.{◌≡◌, map, take}
-use Rattle.cell_gather.specs.Merges.{no_cell}
+use Rattle.cell_store.specs.Cells.{no_cell}
 use Rattle.cell_gather.proofs.merge.no_cells.Given as goal
 
 abbrev pub invariant-loop-form : goal.invariant-loop-form

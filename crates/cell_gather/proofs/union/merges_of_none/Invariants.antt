@@ -1,5 +1,6 @@
 use Rattle.std.proofs.Common.{◌≡◌, map, take}
-use Rattle.cell_gather.specs.Merges.{merged_so_far, no_cell}
+use Rattle.cell_gather.specs.Merges.{merged_so_far}
+use Rattle.cell_store.specs.Cells.{no_cell}
 use Rattle.cell_gather.proofs.union.merges_of_none.Given as goal
 
 abbrev pub invariant-loop-form : goal.invariant-loop-form

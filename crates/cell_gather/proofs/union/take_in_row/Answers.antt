@@ -1,9 +1,9 @@
 use Rattle.std.proofs.Common.{◌≡◌, ◌≤◌, ◌+◌, ◌∙◌, List, ap, arith, get_or, length, map, sym}
 use Rattle.std.proofs.lemmas.List.{get_or-map, length-map, map-set}
 use Rattle.measure_laws.specs.Measures.{most_items}
-use Rattle.cell_store.specs.Cells.{items_of}
+use Rattle.cell_store.specs.Cells.{items_of, merged_cell}
 use Rattle.cell_store.specs.declared.cell.Cell.{Cell}
-use Rattle.cell_gather.specs.Merges.{merged_cell, merged_so_far}
+use Rattle.cell_gather.specs.Merges.{merged_so_far}
 use Rattle.cell_gather.proofs.LoopFacts.{items_at-get, merging_item, merging_set}
 use Rattle.cell_gather.proofs.union.take_in_row.Goals as goal
 

@@ -1,4 +1,4 @@
-use Rattle.std.proofs.Common.{ap, ltb, arith, w32, ◌+◌, ◌≤◌, ◌∙◌}
+use Rattle.std.proofs.Common.{ap, ltb, arith, w32, ◌∙◌}
 use Rattle.std.specs.Int.{bit_at}
 use Rattle.std.proofs.lemmas.Simd.{bitmask_splat, length-chunk}
 use lib.Lanes.{chunk}

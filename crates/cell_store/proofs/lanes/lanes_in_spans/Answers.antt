@@ -1,4 +1,4 @@
-use Rattle.std.proofs.Common.{◌+◌, ◌||◌, Bool, ℕ, ap, get_or, length, sym, take, take_all}
+use Rattle.std.proofs.Common.{◌+◌, ◌||◌, Bool, ℕ, ap, get_or, sym, take, take_all}
 use Rattle.std.specs.List.{list_any}
 use Rattle.std.proofs.lemmas.List.Folds.{list_any_more}
 use Rattle.std.proofs.lemmas.Nat.Bits.{bit_at-zero}

@@ -1,4 +1,4 @@
-use Rattle.std.proofs.Common.{◌≡◌, ◌++◌, ◌∷◌, [], ap, sym, ◌∙◌, zero-add}
+use Rattle.std.proofs.Common.{sym, ◌∙◌, zero-add}
 use Rattle.std.proofs.lemmas.List.FromFn.{map-range_with_len_more}
 use Rattle.cube_desc.specs.Forms.{no_null_at}
 use Rattle.cube_desc.proofs.desc.no_nulls.Goals as goal

@@ -1,4 +1,4 @@
-use Rattle.std.proofs.Common.{◌≡◌, ◌∷◌, [], ◌++◌, take, drop, map}
+use Rattle.std.proofs.Common.{◌≡◌, take, drop, map}
 use Rattle.std.specs.List.{flat_map}
 use Rattle.desc_checks.specs.Firsts.{first}
 use Rattle.cube_desc.specs.Groups.{rules_of, bad_group, bad_groups}

@@ -1,4 +1,4 @@
-use Rattle.std.proofs.Common.{◌≡◌, ◌∷◌, [], ◌++◌, take, drop, map}
+use Rattle.std.proofs.Common.{◌≡◌, take, map}
 use Rattle.agg_group.specs.Rules.{lists_of}
 use Rattle.cube_desc.specs.Groups.{dimensions_of}
 use Rattle.cube_desc.proofs.groups.lists_of.Given as goal

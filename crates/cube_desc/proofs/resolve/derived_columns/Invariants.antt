@@ -1,4 +1,4 @@
-use Rattle.std.proofs.Common.{◌≡◌, ◌∷◌, [], ◌++◌, take, drop, map}
+use Rattle.std.proofs.Common.{◌≡◌, take}
 use Rattle.std.specs.List.{flat_map}
 use Rattle.cube_desc.specs.Resolve.{dimension_derived}
 use Rattle.cube_desc.proofs.resolve.derived_columns.Given as goal

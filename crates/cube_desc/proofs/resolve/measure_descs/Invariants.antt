@@ -1,4 +1,4 @@
-use Rattle.std.proofs.Common.{◌≡◌, ◌∷◌, [], ◌++◌, take, drop, map}
+use Rattle.std.proofs.Common.{◌≡◌, take, map}
 use Rattle.cube_desc.specs.Resolve.{measure_of}
 use Rattle.cube_desc.proofs.resolve.measure_descs.Given as goal
 

@@ -1,4 +1,4 @@
-use Rattle.std.proofs.Common.{◌≡◌, ◌∷◌, [], ◌++◌, take, drop, map}
+use Rattle.std.proofs.Common.{◌≡◌, ◌++◌, take, map}
 use Rattle.cube_desc.specs.Resolve.{wide_derived, derived_column}
 use Rattle.cube_desc.proofs.resolve.push_wide_derived.Given as goal
 

@@ -1,4 +1,4 @@
-use Rattle.std.proofs.Common.{◌≡◌, ◌∷◌, [], ◌++◌, take, drop, map}
+use Rattle.std.proofs.Common.{◌≡◌, ◌++◌, take, map}
 use Rattle.std.specs.List.{flat_map}
 use Rattle.cube_desc.specs.Resolve.{wide_derived, dimension_derived}
 use Rattle.cube_desc.proofs.resolve.push_wide_dimensions.Given as goal

@@ -1,4 +1,4 @@
-use Rattle.std.proofs.Common.{◌≡◌, ◌++◌, [], List, ℕ, ap, subst, sym}
+use Rattle.std.proofs.Common.{◌≡◌, ◌++◌, [], List, ℕ, subst, sym}
 use Rattle.std.specs.Prelude.{All, OnOk}
 use Rattle.std.proofs.lemmas.Option.{get_or_from_slice_get}
 use Rattle.cell_store.specs.Selects.{row_at}

@@ -23,7 +23,7 @@ text_of_cuboid-requires-clause-rows g c =
     let at : Some dict ≡ Some c.get.result.now = ap (λ l. slice_get l 0) (sym dicts) ∙ c.get.ensures in
     let first : dict ≡ c.get.result.now = cc at in
     let is : IsCuboid (sum_of_m ∷ []) (dicts_of rows) rows d1_alone table = subst (λ (f : List (List Val)). IsCuboid (sum_of_m ∷ []) (dicts_of f) f d1_alone table) c.of-flat.ensures c.in_ok-table.ensures in
-    subst (λ (l : List (List ℕ × List Cell)). All (IsSumRow c.get.result.now) l) (sym (cuboid_groups rows table is))
+    subst (λ (l : List (List ℕ × List Cell)). All (IsSumRow c.get.result.now) l) (sym (cuboid_groups rows table c.requires.rows is))
     (subst (λ (d : List Val). All (IsSumRow d) (map (numbered dict) (groups_by_d1 rows))) first (cuboid_rows rows))
 
 pub text_of_cuboid-requires-clause-texts : goal.text_of_cuboid-requires-clause-texts
@@ -42,5 +42,5 @@ returns g c =
     let at : Some (column_dict rows 0) ≡ Some c.get.result.now = ap (λ l. slice_get l 0) (sym dicts) ∙ c.get.ensures in
     let first : column_dict rows 0 ≡ c.get.result.now = cc at in
     let is : IsCuboid (sum_of_m ∷ []) (dicts_of rows) rows d1_alone table = subst (λ (f : List (List Val)). IsCuboid (sum_of_m ∷ []) (dicts_of f) f d1_alone table) c.of-flat.ensures c.in_ok-table.ensures in
-    let groups = cuboid_groups rows table is in
+    let groups = cuboid_groups rows table c.requires.rows is in
     IfOk-weaker c.text_of_cuboid.result _ _ (λ text h. h ∙ (λ i. header_line ++ flat_map (row_line (sym first i)) (groups i)) ∙ ap (λ l. header_line ++ l) (cuboid_lines rows)) c.text_of_cuboid.ensures

@@ -1,5 +1,6 @@
 use Rattle.std.proofs.Common.{◌≡◌, ◌≤◌, ◌-◌, ◌∙◌, ap, arith, map, refl}
-use Rattle.layer_builder.specs.Base.{base_mask, form_of_kind, key_width}
+use Rattle.plain_answer.specs.Kinds.{form_of_kind}
+use Rattle.layer_builder.specs.Base.{base_mask, key_width}
 use Rattle.layer_builder.proofs.PieceFacts.{alike, few_in_tables, joined_is}
 use Rattle.layer_builder.proofs.base_cuboid.base_of_pieces.Goals as goal
 

@@ -1,5 +1,5 @@
 use Rattle.std.proofs.Common.{◌≡◌, map, take}
-use Rattle.layer_builder.specs.Base.{form_of_kind}
+use Rattle.plain_answer.specs.Kinds.{form_of_kind}
 use Rattle.layer_builder.proofs.cells.forms_of.Given as goal
 
 abbrev pub invariant-loop-agg : goal.invariant-loop-agg

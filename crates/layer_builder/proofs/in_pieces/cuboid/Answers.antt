@@ -4,7 +4,8 @@ use Rattle.std.specs.List.{flat_map}
 use Rattle.std.proofs.lemmas.List.Elements.{All-from_recursion}
 use Rattle.cell_store.specs.Cells.{CellRows}
 use Rattle.cube_val.specs.declared.val.Val.{Val}
-use Rattle.layer_builder.specs.Base.{form_of_kind, key_width}
+use Rattle.plain_answer.specs.Kinds.{form_of_kind}
+use Rattle.layer_builder.specs.Base.{key_width}
 use Rattle.layer_builder.proofs.InPiecesFacts.{cuboids_alike, cuboids_joined, few_in_cuboids}
 use Rattle.layer_builder.proofs.in_pieces.cuboid.Goals as goal
 

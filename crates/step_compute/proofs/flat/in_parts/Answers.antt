@@ -1,4 +1,4 @@
-use Rattle.std.proofs.Common.{◌≡◌, ◌+◌, ◌-◌, ◌++◌, ◌∙◌, ap, arith, drop, length, subst, sym, take, take_all}
+use Rattle.std.proofs.Common.{◌≡◌, ◌+◌, ◌-◌, ◌++◌, ◌∙◌, ap, arith, drop, length, sym, take}
 use Rattle.std.proofs.Math.Seq.{take-add}
 use Rattle.flat_join.specs.Joins.{fact_of}
 use Rattle.flat_join.specs.Prepared.{flat_rows_of}

@@ -1,9 +1,8 @@
-use Rattle.std.proofs.Common.{◌≡◌, ◌<◌, ◌∙◌, ℕ, ap, length, map, subst, sym}
+use Rattle.std.proofs.Common.{◌≡◌, ◌<◌, ◌∙◌, ap, length, map, subst, sym}
 use Rattle.std.specs.Prelude.{All}
-use Rattle.std.specs.List.{filter}
 use Rattle.std.proofs.lemmas.List.Elements.{All-filter}
 use Rattle.agg_group.specs.Mask.{count_of}
-use Rattle.cell_store.specs.Selects.{passes, places_of, row_at}
+use Rattle.cell_store.specs.Selects.{passes, row_at}
 use Rattle.cell_store.proofs.ColumnLemmas.{Row}
 use Rattle.cell_store.proofs.SelectLemmas.{filter-range_within, rows_at_places}
 use Rattle.cell_store.proofs.table.CellTable.select.Goals as goal

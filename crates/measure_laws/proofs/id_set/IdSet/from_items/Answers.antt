@@ -2,7 +2,7 @@ use Rattle.std.proofs.Common.{◌≡◌, ◌∙◌, arith, length, subst, sym}
 use Rattle.std.specs.List.Sorted.{IsStrictlySortedBy}
 use Rattle.std.specs.Ordering.{nat_cmp}
 use Rattle.measure_laws.specs.IdFacts.{same_ids}
-use Rattle.measure_laws.specs.Ids.{different, ids_of, rises-different}
+use Rattle.measure_laws.specs.Ids.{ids_of, rises-different}
 use Rattle.measure_laws.proofs.IdCounts.{count_items}
 use Rattle.measure_laws.proofs.id_set.IdSet.from_items.Goals as goal
 

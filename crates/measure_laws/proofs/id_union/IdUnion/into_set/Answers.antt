@@ -1,8 +1,8 @@
-use Rattle.std.proofs.Common.{◌≡◌, ◌∙◌, ap, subst, sym}
+use Rattle.std.proofs.Common.{◌∙◌, ap, subst, sym}
 use Rattle.std.specs.List.Sorted.{IsStrictlySortedBy}
 use Rattle.std.specs.Ordering.{nat_cmp}
 use Rattle.measure_laws.specs.IdFacts.{same_ids}
-use Rattle.measure_laws.specs.Ids.{Ids, different, rises-different}
+use Rattle.measure_laws.specs.Ids.{Ids, rises-different}
 use Rattle.measure_laws.proofs.id_union.IdUnion.into_set.Goals as goal
 
 pub of-requires-clause-rising : goal.of-requires-clause-rising
