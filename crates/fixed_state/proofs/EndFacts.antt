@@ -1,45 +1,47 @@
 -- The job whose step ends.
-use Rattle.std.proofs.Common.{◌≡◌, ℕ, zero, suc, ◌+◌, ◌-◌, ◌<◌, ◌≤◌, OnOk, Bool, true, false, cond, ◌==◌, Option, Some, None, Result, Ok, Err, List, [], ◌∷◌, ◌++◌, length, map, set, slice_get, unwrap_or, refl, sym, ap, ◌∙◌, subst, arith}
+use Rattle.std.proofs.Common.{◌≡◌, ℕ, zero, suc, ◌+◌, ◌-◌, ◌<◌, ◌≤◌, OnOk, Bool, true, false, cond, Option, Some, None, Result, Ok, Err, List, [], ◌∷◌, ◌++◌, length, set, slice_get, unwrap_or, refl, sym, ap, ◌∙◌, subst, arith}
 use Rattle.std.proofs.lemmas.Bool.{eq-eqb, eqb-true}
 use Rattle.std.proofs.lemmas.Option.{slice_get-map}
+use Rattle.std.specs.List.{insert}
 use Rattle.std.specs.Prelude.{Vec, is_some, option_map}
 use Rattle.std.specs.declared.alloc.Global.{Global}
-use Rattle.fixed_cube.specs.Cells.{Cell, base_of}
-use Rattle.fixed_cube.specs.Cube.{fixed, job_task, rows_of}
+use Rattle.fixed_cube.specs.Cells.{Cell}
+use Rattle.fixed_cube.specs.Cube.{fixed, job_task}
 use Rattle.byte_frame.specs.Exact.{IsBytes}
 use Rattle.fixed_cube.specs.Tasks.{is_product, product_in, product_of}
 use Rattle.fixed_cube.specs.declared.products.FixedProduct.TheVariants.{Rows as RowsProduct, Cells}
 use Rattle.cube_val.specs.declared.val.Val.{Val}
-use Rattle.job_machine.specs.Job.{Act, JobRecord, is_current, is_last_step, next}
-use Rattle.job_machine.specs.declared.state.Ended.{Ended}
+use Rattle.job_machine.specs.Job.{is_current, is_last_step, next}
 use Rattle.job_machine.specs.declared.state.Ended.TheVariants as ended
-use Rattle.job_machine.specs.declared.state.JobKind.TheVariants.{Build}
 use Rattle.plain_answer.specs.declared.ask.Ask.{Ask as Query}
-use Rattle.range_list.specs.Ranges.{Interval}
+use Rattle.range_list.specs.Ranges.{IsFree}
+use Rattle.run_history.specs.Invariants.{ranges_of}
+use Rattle.run_history.specs.Sets.{ReadySet, Segment}
 use Rattle.job_machine.specs.declared.state.JobState.{JobState}
 use Rattle.job_machine.specs.declared.state.JobState.TheVariants.{Finished, Running}
 use Rattle.run_history.specs.Cubes.{Rows, Snapshot}
-use Rattle.run_history.specs.Steps.{end_by}
-use Rattle.run_history.specs.World.{Submitted, World, in_force, job_at, job_of, next_task}
+use Rattle.run_history.specs.World.{Submitted, World, in_force, job_at, job_of}
 use Rattle.run_history.specs.declared.event.Outcome.{Outcome}
 use Rattle.run_history.specs.declared.event.Outcome.TheVariants.{Done}
 use Rattle.run_history.proofs.Jobs.{Counts, current_counts, running_live}
-use Rattle.run_state.specs.Orders.{IsBuildAt, IsFreeFor, IsOrderly, IsQueued, data_of, is_current_at, is_last_at, products_of}
+use Rattle.run_state.specs.Numbered.{segment_of}
+use Rattle.run_state.specs.Orders.{IsQueued, is_current_at, is_last_at, products_of}
 use Rattle.run_state.specs.States.{entry_at, submitted_of}
-use Rattle.run_state.proofs.SoundStates.{free, queued}
+use Rattle.run_state.proofs.SoundStates.{queued}
 use Rattle.run_state.proofs.Turns.{job_by_entry}
-use Rattle.fixed_state.specs.Ends.{Answer, IsProductOf, ended_at, kept_of, outcome_of, products_after, world_ended}
+use Rattle.fixed_state.specs.Ends.{IsProductOf, ended_at, kept_of, outcome_of, world_ended}
 use Rattle.fixed_state.specs.Kept.{AreKept, IsFixedState, IsKept, first_snapshot}
-use Rattle.fixed_state.specs.Ready.{IsPlaced, segment_of}
-use Rattle.fixed_state.specs.States.{FixedEntry, FixedState, StandsFor, rows_seen}
+use Rattle.fixed_state.specs.Ready.{IsPlaced, ReadyModel, ready_seen, rows_seen}
+use Rattle.fixed_state.specs.States.{FixedEntry, FixedState, StandsFor, cells_of, segment_at}
 use Rattle.fixed_state.specs.Tasks.{snapshot_now, task_kept}
 use Rattle.fixed_state.proofs.Events.{kept_absent, kept_advanced, kept_failed, kept_finished, kept_of_job, kept_stale, segment_kept}
 use Rattle.outside.specs.declared.hand.HandFault.{HandFault}
 use Rattle.outside.specs.declared.hand.HandFault.TheVariants as fault
 use Rattle.run_state.specs.Answers.{is_failure}
 use Rattle.fixed_state.proofs.Jobs.{fits_tables, kept_advance, kept_finish}
+use Rattle.fixed_state.proofs.Free.{free_for}
 use Rattle.fixed_state.proofs.NextTasks.{after_next}
-use Rattle.fixed_state.proofs.TaskFacts.{last_base, last_no_rows, made_now, next_of_build}
+use Rattle.fixed_state.proofs.TaskFacts.{last_base, last_no_rows, next_of_build, origin_of_build, some_is}
 
 -- ---- the entry of a job
 
@@ -92,17 +94,20 @@ module _ (honest : Type 0) (s : FixedState) (job attempt : ℕ) (f : IsFixedStat
   pub tables_now : is_some submitted_now.tables ≡ true
   tables_now = (f.sound.numbered job submitted_now (there_now f.w f.stands)).snapshot counts_now.in_flight
 
-  pub kept_now : (w : World Query) → StandsFor w s → AreKept honest w (products_of s) (data_of s) → IsKept honest submitted_now (kept_of (products_of s) job)
-  kept_now w i k = kept_of_job honest w (products_of s) (data_of s) k job attempt submitted_now (there_now w i)
+  pub kept_now : (w : World Query) → StandsFor w s → AreKept honest w (products_of s) (cells_of s) → IsKept honest submitted_now (kept_of (products_of s) job)
+  kept_now w i k = kept_of_job honest w (products_of s) (cells_of s) k job attempt submitted_now (there_now w i)
 
   pub own_kept : IsKept honest submitted_now (kept_of (products_of s) job)
   own_kept = kept_now f.w f.stands f.kept
 
   pub queued_now : IsQueued s
-  queued_now = queued fixed rows_seen f.w s f.sound f.stands
+  queued_now = queued fixed rows_seen ready_seen f.w s f.sound f.stands
 
-  pub free_now : IsFreeFor s (entry_at s.jobs.items job)
-  free_now = free fixed rows_seen f.w s f.sound f.stands f.orderly job attempt (ap (λ (o : Option FixedEntry). is_current_at o attempt) t.at ∙ t.current) (subst (IsBuildAt {T = Rows} {P = List ℕ}) (sym t.at) own_kept.build)
+  -- no ready segment overlaps the range of its job
+  pub free_now : IsFree (ranges_of s.ready.set.segments) t.entry.range
+  free_now =
+      subst (λ (set : ReadySet). IsFree (ranges_of set) t.entry.range) f.stands.ready
+      (free_for fixed f.w f.sound job submitted_now (there_now f.w f.stands) (running_live t.entry.job.state counts_now.running) own_kept.build)
 
   pub counted_now : length (kept_of (products_of s) job) ≡ t.entry.job.done
   counted_now = own_kept.counted (running_live t.entry.job.state counts_now.running)
@@ -137,6 +142,13 @@ module _ (honest : Type 0) (s : FixedState) (job attempt : ℕ) (f : IsFixedStat
   pub same_snapshot : (w : World Query) → first_snapshot submitted_now ≡ snapshot_now w submitted_now
   same_snapshot w = ap (λ (tables : List Rows). record { tables = tables; range = submitted_now.range }) (same_tables submitted_now.tables (in_force w) tables_now)
 
+  -- what its job makes
+  pub segment_now : (w : World Query) (x : Submitted) → StandsFor w s → job_of w job ≡ Some x → segment_of w job x ≡ segment_at t.entry job
+  segment_now w x i e =
+      let same : submitted_now ≡ x = some_is submitted_now x (sym (there_now w i) ∙ e) in
+      let made : List Snapshot → Segment = λ origin. record { range = t.entry.range; job = job; origin = origin } in
+      ap (segment_of w job) (sym same) ∙ ap made (origin_of_build w submitted_now own_kept.build ∙ ap (λ (snapshot : Snapshot). snapshot ∷ []) (sym (same_snapshot w)))
+
   -- an honest hand's product
   pub due_now : (w : World Query) (bytes : Vec ℕ Global) → StandsFor w s → IsProductOf w (job_of w job) attempt (Ok bytes) → bytes.items ≡ product_of (job_task (snapshot_now w submitted_now) t.entry.job.done)
   due_now w bytes i h =
@@ -145,19 +157,19 @@ module _ (honest : Type 0) (s : FixedState) (job attempt : ℕ) (f : IsFixedStat
 
   -- ---- what is kept after a success
 
-  pub advanced_now : (w : World Query) (bytes : Vec ℕ Global) → StandsFor w s → AreKept honest w (products_of s) (data_of s) → (honest → IsProductOf w (job_of w job) attempt (Ok bytes)) → is_last_step t.entry.job ≡ false → IsBytes bytes.items
+  pub advanced_now : (w : World Query) (bytes : Vec ℕ Global) → StandsFor w s → AreKept honest w (products_of s) (cells_of s) → (honest → IsProductOf w (job_of w job) attempt (Ok bytes)) → is_last_step t.entry.job ≡ false → IsBytes bytes.items
       → ((snapshot : Snapshot) → is_product (task_kept snapshot (kept_of (products_of s) job)) bytes.items ≡ true)
-      → AreKept honest (world_ended w job attempt Done) (set (products_of s) (job - 1) (kept_of (products_of s) job ++ bytes.items ∷ [])) (data_of s)
+      → AreKept honest (world_ended w job attempt Done) (set (products_of s) (job - 1) (kept_of (products_of s) job ++ bytes.items ∷ [])) (cells_of s)
   advanced_now w bytes i k product more b judged =
       let kept = kept_now w i k in
-      kept_advanced honest w (products_of s) (data_of s) k job attempt submitted_now bytes.items (there_now w i) t.current more
+      kept_advanced honest w (products_of s) (cells_of s) k job attempt submitted_now bytes.items (there_now w i) t.current more
       (kept_advance honest submitted_now (kept_of (products_of s) job) bytes.items counts_now.running tables_now
       (λ h. due_now w bytes i (product h) ∙ ap (λ (snapshot : Snapshot). product_of (job_task snapshot t.entry.job.done)) (sym (same_snapshot w)))
       (after_next (first_snapshot submitted_now) (kept_of (products_of s) job) bytes.items kept.fits kept.next b (one_more more) (judged (first_snapshot submitted_now))) kept)
 
-  pub finished_now : (w : World Query) (bytes : Vec ℕ Global) (sealed : List Cell) (after : List (List Cell)) → StandsFor w s → AreKept honest w (products_of s) (data_of s) → (honest → IsProductOf w (job_of w job) attempt (Ok bytes))
+  pub finished_now : (w : World Query) (bytes : Vec ℕ Global) (sealed : List Cell) (after : List (List Cell)) → StandsFor w s → AreKept honest w (products_of s) (cells_of s) → (honest → IsProductOf w (job_of w job) attempt (Ok bytes))
       → is_last_step t.entry.job ≡ true → ((snapshot : Snapshot) → product_in (task_kept snapshot (kept_of (products_of s) job)) bytes.items ≡ Some (Cells sealed))
-      → IsPlaced (segment_of w job submitted_now) w.ready (world_ended w job attempt Done).ready sealed (data_of s) after
+      → IsPlaced (segment_of w job submitted_now) w.ready (world_ended w job attempt Done).ready sealed (cells_of s) after
       → AreKept honest (world_ended w job attempt Done) (set (products_of s) (job - 1) []) after
   finished_now w bytes sealed after i k product last reads placed =
       let kept = kept_now w i k in
@@ -165,9 +177,9 @@ module _ (honest : Type 0) (s : FixedState) (job attempt : ℕ) (f : IsFixedStat
       let done : t.entry.job.done ≡ 2 = sym counted_now ∙ two in
       let snapshot = snapshot_now w submitted_now in
       let fits = fits_tables submitted_now.tables submitted_now.range w.loaded k.loaded kept.fits in
-      kept_finished honest w (products_of s) (data_of s) k job attempt submitted_now sealed after (there_now w i) t.current last
+      kept_finished honest w (products_of s) (cells_of s) k job attempt submitted_now sealed after (there_now w i) t.current last
       (kept_finish honest submitted_now (kept_of (products_of s) job) counts_now.running tables_now kept)
-      (segment_kept honest w (products_of s) (data_of s) k job attempt submitted_now sealed (there_now w i)
+      (segment_kept honest w (products_of s) (cells_of s) k job attempt submitted_now sealed (there_now w i)
       (λ h. last_base snapshot (kept_of (products_of s) job) bytes.items sealed fits two (reads snapshot) (due_now w bytes i (product h) ∙ ap (λ (n : ℕ). product_of (job_task snapshot n)) done)))
       placed
 
@@ -198,8 +210,8 @@ module _ (honest : Type 0) (s : FixedState) (job attempt : ℕ) (f : IsFixedStat
 
   -- ---- ends that fail
 
-  pub failed_now : (w : World Query) (outcome : Outcome) → StandsFor w s → AreKept honest w (products_of s) (data_of s) → is_failure outcome ≡ true → AreKept honest (world_ended w job attempt outcome) (products_of s) (data_of s)
-  failed_now w outcome i k fails = kept_failed honest w (products_of s) (data_of s) k job attempt outcome submitted_now (there_now w i) fails t.current
+  pub failed_now : (w : World Query) (outcome : Outcome) → StandsFor w s → AreKept honest w (products_of s) (cells_of s) → is_failure outcome ≡ true → AreKept honest (world_ended w job attempt outcome) (products_of s) (cells_of s)
+  failed_now w outcome i k fails = kept_failed honest w (products_of s) (cells_of s) k job attempt outcome submitted_now (there_now w i) fails t.current
 
   pub few_now : length (kept_of (products_of s) job) < 255
   few_now =
@@ -237,14 +249,14 @@ pub still_current : (w : World Query) (s s' : FixedState) (job attempt : ℕ) �
 still_current w s s' job attempt i i' h = current_in w s' job attempt i' ∙ (sym (current_in w s job attempt i) ∙ h)
 
 -- the end of an attempt that doesn't count leaves what is kept
-pub stale_now : (honest : Type 0) (w : World Query) (s : FixedState) (job attempt : ℕ) (outcome : Outcome) → StandsFor w s → AreKept honest w (products_of s) (data_of s) → is_current_at (entry_at s.jobs.items job) attempt ≡ false
-    → AreKept honest (world_ended w job attempt outcome) (products_of s) (data_of s)
+pub stale_now : (honest : Type 0) (w : World Query) (s : FixedState) (job attempt : ℕ) (outcome : Outcome) → StandsFor w s → AreKept honest w (products_of s) (cells_of s) → is_current_at (entry_at s.jobs.items job) attempt ≡ false
+    → AreKept honest (world_ended w job attempt outcome) (products_of s) (cells_of s)
 stale_now honest w s job attempt outcome i k h = by_job (job_of w job) refl
   where
-    by_job : (o : Option Submitted) → job_of w job ≡ o → AreKept honest (world_ended w job attempt outcome) (products_of s) (data_of s)
-    by_job None e = kept_absent honest w (products_of s) (data_of s) k job attempt outcome e
+    by_job : (o : Option Submitted) → job_of w job ≡ o → AreKept honest (world_ended w job attempt outcome) (products_of s) (cells_of s)
+    by_job None e = kept_absent honest w (products_of s) (cells_of s) k job attempt outcome e
     by_job (Some t) e =
-        kept_stale honest w (products_of s) (data_of s) k job attempt outcome t e (sym (ap (λ (o : Option Submitted). current_of o attempt) e) ∙ (sym (current_in w s job attempt i) ∙ h))
+        kept_stale honest w (products_of s) (cells_of s) k job attempt outcome t e (sym (ap (λ (o : Option Submitted). current_of o attempt) e) ∙ (sym (current_in w s job attempt i) ∙ h))
 
 -- ---- answers
 
@@ -258,3 +270,12 @@ on_ok_both (Err e) f p q = p
 
 pub kept_again : (honest : Type 0) (w : World Query) (products products' : List (List (List ℕ))) (cells cells' : List (List Cell)) → products' ≡ products → cells' ≡ cells → AreKept honest w products cells → AreKept honest w products' cells'
 kept_again honest w products products' cells cells' p c k = rw (p, c) k
+
+-- a segment that came at a place of sets that are told otherwise
+pub placed_now : (added : List Cell) (segment segment' : Segment) (old old' new : ReadySet) (next : ReadyModel) {before after : List (List Cell)} → segment ≡ segment' → old ≡ old' → new ≡ next.set.segments → after ≡ next.cells
+    → IsPlaced segment' old' next.set.segments added before next.cells → IsPlaced segment old new added before after
+placed_now added segment segment' old old' new next s o n a p = record {
+  place = p.place;
+  segments = n ∙ (p.segments ∙ (ap (λ (set : ReadySet). insert set p.place segment') (sym o) ∙ ap (insert old p.place) (sym s)));
+  cells = a ∙ p.cells;
+}

@@ -1,38 +1,40 @@
 -- What is kept, turn by turn.
-use Rattle.std.proofs.Common.{◌≡◌, ℕ, zero, suc, ◌+◌, ◌-◌, ◌<◌, ◌≤◌, Bool, true, false, cond, not, ◌==◌, Option, Some, None, List, [], ◌∷◌, ◌++◌, length, map, set, slice_get, unwrap_or, refl, sym, ap, ◌∙◌, subst, arith, append-nil}
-use Rattle.std.specs.Prelude.{filter, find, is_some}
+use Rattle.std.proofs.Common.{◌≡◌, ℕ, zero, suc, ◌-◌, ◌<◌, Bool, true, false, cond, not, ◌==◌, Option, Some, None, List, [], ◌∷◌, ◌++◌, length, set, unwrap_or, refl, sym, ap, ◌∙◌, subst, arith, append-nil}
+use Rattle.std.specs.Prelude.{filter, find}
 use Rattle.std.specs.List.{AllByRecursion, flat_map, insert}
 use Rattle.byte_frame.specs.Spelling.{EachFits}
 use Rattle.fixed_cube.specs.Answers.{by_first}
 use Rattle.fixed_cube.specs.Cells.{Cell, base_of}
 use Rattle.fixed_cube.specs.Columns.{fact_columns, row_limit}
-use Rattle.fixed_cube.specs.Cube.{FitsSnapshot, fixed, job_task, rows_of}
-use Rattle.fixed_cube.specs.Tasks.{product_of}
-use Rattle.job_machine.specs.Job.{Act, JobRecord, is_current, is_last_step, next}
+use Rattle.fixed_cube.specs.Cube.{FitsSnapshot, rows_of}
+use Rattle.job_machine.specs.Job.{Act, is_current, is_last_step, next, state_after}
+use Rattle.job_machine.specs.declared.state.JobState.{JobState}
 use Rattle.job_machine.specs.declared.state.JobKind.TheVariants.{Build}
-use Rattle.job_machine.specs.declared.state.JobState.TheVariants.{Running}
 use Rattle.plain_answer.specs.declared.ask.Ask.{Ask as Query}
 use Rattle.range_list.specs.Ranges.{Interval}
 use Rattle.run_history.specs.Commands.Command.{Load, Steer, Ask}
 use Rattle.run_history.specs.Cubes.{Rows, Snapshot}
 use Rattle.run_history.specs.Sets.{Segment}
 use Rattle.run_history.specs.Steps.{accepted, by_verdict, claimed, query_ended, query_taken, steered, submitted, with_job, without_claim}
-use Rattle.run_history.specs.Verdicts.{act_of, steer_refusal}
-use Rattle.run_history.specs.World.{Asked, Submitted, Waiting, World, in_force, job_of, number, origin_of}
+use Rattle.run_history.specs.Verdicts.{act_of, state_refusal, steer_by, steer_refusal}
+use Rattle.run_history.specs.World.{Asked, Submitted, Waiting, World, in_force, job_of}
 use Rattle.run_history.specs.declared.command.Control.{Control}
 use Rattle.run_history.specs.declared.command.Control.TheVariants.{Pause, Resume, Discard}
 use Rattle.run_history.specs.declared.event.Outcome.{Outcome}
 use Rattle.run_history.specs.declared.event.Outcome.TheVariants.{Done}
 use Rattle.run_history.specs.declared.event.QueryOut.{QueryOut}
 use Rattle.run_history.specs.declared.refused.Refused.{Refused}
-use Rattle.run_state.specs.Answers.{is_failure}
+use Rattle.run_history.specs.declared.refused.Refused.TheVariants.{NoSuchJob}
+use Rattle.run_state.specs.Answers.{is_failure, products_steered}
+use Rattle.run_state.specs.Numbered.{segment_of}
+use Rattle.run_state.proofs.Steers.{steered_refused}
 use Rattle.run_state.proofs.Ends.{absent_world, advanced_world, failed_world, finished_world, stale_world}
 use Rattle.step_fields.specs.Fits.{FitsRows, IsDayRange}
 use Rattle.fixed_state.specs.Ends.{kept_of, world_ended}
 use Rattle.fixed_state.specs.Kept.{AreKept, IsKept, IsLoaded, IsReadyKept}
-use Rattle.fixed_state.specs.Ready.{IsPlaced, base_of_segment, segment_of}
+use Rattle.fixed_state.specs.Ready.{IsPlaced}
 use Rattle.fixed_state.specs.Tasks.{snapshot_now}
-use Rattle.fixed_state.proofs.Jobs.{IsNoStep, fits_tables, kept_act, kept_advance, kept_claim, kept_finish}
+use Rattle.fixed_state.proofs.Jobs.{IsNoStep, fits_tables, kept_act, kept_claim, kept_discard}
 use Rattle.fixed_state.proofs.NextTasks.{none_after}
 use Rattle.fixed_state.proofs.Pairs.{fits_at, fits_insert, fits_push, fits_set, fits_set_left, job_place}
 use Rattle.fixed_state.proofs.TaskFacts.{origin_of_build}
@@ -91,9 +93,8 @@ module _ (honest : Type 0) where
     kept_job : (job : ℕ) (s t : Submitted) → job_of w job ≡ Some s → ((kept : List (List ℕ)) → IsKept honest s kept → IsKept honest t kept) → EachFits (IsKept honest) (with_job w.jobs job t) products
     kept_job job s t there keeps = fits_set_left (IsKept honest) w.jobs products (job - 1) s t k.jobs (job_place w.jobs job s there) keeps
 
-    steered_kept : (line job : ℕ) (control : Control) (o : Option Submitted) → job_of w job ≡ o → AreKept honest (steered (record w { line = line }) control job o) products cells
-    steered_kept line job control None e = kept_line line
-    steered_kept line job control (Some s) e = record {
+    moved_kept : (line job : ℕ) (control : Control) (s : Submitted) → job_of w job ≡ Some s → AreKept honest (steered (record w { line = line }) control job (Some s)) products cells
+    moved_kept line job control s e = record {
       loaded = k.loaded;
       jobs = kept_job job s (record s { job = next (act_of control) s.job }) e (λ kept h. kept_act honest (act_of control) s kept (no_act control) h);
       ready = k.ready;
@@ -101,12 +102,34 @@ module _ (honest : Type 0) where
       asked = k.asked;
     }
 
-    pub kept_steer : (line job : ℕ) (control : Control) → AreKept honest (by_verdict (steer_refusal control job (job_of w job)) 0 (record w { line = line }) (Steer control job)) products cells
-    kept_steer line job control = by_refusal (steer_refusal control job (job_of w job))
+    steered_kept : (line job : ℕ) (control : Control) (s : Submitted) → job_of w job ≡ Some s → AreKept honest (steered (record w { line = line }) control job (Some s)) (products_steered control None job products) cells
+    steered_kept line job Pause s e = moved_kept line job Pause s e
+    steered_kept line job Resume s e = moved_kept line job Resume s e
+    steered_kept line job Discard s e = record {
+      loaded = k.loaded;
+      jobs = fits_set (IsKept honest) w.jobs products (job - 1) s (record s { job = next Act.Discard s.job }) [] [] k.jobs (job_place w.jobs job s e) (λ h. kept_discard honest s (kept_of products job) h);
+      ready = k.ready;
+      waiting = k.waiting;
+      asked = k.asked;
+    }
+
+    refused_kept : (line job : ℕ) (control : Control) (refused : Refused) → AreKept honest (record w { line = line }) (products_steered control (Some refused) job products) cells
+    refused_kept line job control refused = subst (λ (left : List (List (List ℕ))). AreKept honest (record w { line = line }) left cells) (sym (steered_refused control refused job products)) (kept_line line)
+
+    pub kept_steer : (line job : ℕ) (control : Control)
+        → AreKept honest (by_verdict (steer_refusal control job (job_of w job)) 0 (record w { line = line }) (Steer control job)) (products_steered control (steer_refusal control job (job_of w job)) job products) cells
+    kept_steer line job control = by_job (job_of w job) refl
       where
-        by_refusal : (o : Option Refused) → AreKept honest (by_verdict o 0 (record w { line = line }) (Steer control job)) products cells
-        by_refusal (Some refused) = kept_line line
-        by_refusal None = steered_kept line job control (job_of w job) refl
+        by_after : (s : Submitted) (after : Option JobState) → job_of w job ≡ Some s
+            → AreKept honest (by_verdict (steer_by s.job.state after) 0 (record w { line = line }) (Steer control job)) (products_steered control (steer_by s.job.state after) job products) cells
+        by_after s None e = refused_kept line job control (state_refusal s.job.state)
+        by_after s (Some after) e =
+            subst (λ (o : Option Submitted). AreKept honest (steered (record w { line = line }) control job o) (products_steered control None job products) cells) (sym e) (steered_kept line job control s e)
+
+        by_job : (o : Option Submitted) → job_of w job ≡ o
+            → AreKept honest (by_verdict (steer_refusal control job o) 0 (record w { line = line }) (Steer control job)) (products_steered control (steer_refusal control job o) job products) cells
+        by_job None e = refused_kept line job control (NoSuchJob job)
+        by_job (Some s) e = by_after s (state_after (act_of control) s.job.state) e
 
     pub kept_claimed : (job attempt : ℕ) (o : Option Submitted) → job_of w job ≡ o → AreKept honest (claimed w job attempt o) products cells
     kept_claimed job attempt None e = k

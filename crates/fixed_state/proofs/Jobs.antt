@@ -1,5 +1,5 @@
 -- What acts leave of a job, and of what is kept of it.
-use Rattle.std.proofs.Common.{◌≡◌, ◌≢◌, ℕ, zero, suc, ◌+◌, ◌-◌, true, false, Option, Some, None, List, [], ◌∷◌, ◌++◌, length, map, slice_get, unwrap_or, refl, sym, ap, ◌∙◌, subst, arith, add-one, length-append}
+use Rattle.std.proofs.Common.{◌≡◌, ℕ, ◌+◌, true, false, Option, Some, None, List, [], ◌∷◌, ◌++◌, map, unwrap_or, refl, sym, ap, ◌∙◌, subst, add-one, length-append}
 use Rattle.std.specs.Prelude.{is_some}
 use Rattle.fixed_cube.specs.Columns.{fact_columns, row_limit}
 use Rattle.fixed_cube.specs.Cube.{FitsSnapshot, fact_rows, job_task}
@@ -9,7 +9,7 @@ use Rattle.job_machine.specs.declared.state.JobState.{JobState}
 use Rattle.job_machine.specs.declared.state.JobState.TheVariants.{Pending, Running, Error, Stopped, Discarded, Finished}
 use Rattle.plain_answer.specs.declared.ask.Ask.{Ask}
 use Rattle.range_list.specs.Ranges.{Interval}
-use Rattle.run_history.specs.Cubes.{Rows, Snapshot}
+use Rattle.run_history.specs.Cubes.{Rows}
 use Rattle.run_history.specs.World.{Submitted, World, in_force, is_live}
 use Rattle.run_history.proofs.Jobs.{finish_ends, running_live, same_job}
 use Rattle.step_fields.specs.Fits.{FitsRows}
@@ -162,3 +162,32 @@ module _ (honest : Type 0) where
 
       dead : (state : JobState) → state ≡ Finished → is_live state ≡ true → ⊥
       dead state e h = let f : is_live Finished ≡ true = subst (λ (x : JobState). is_live x ≡ true) e h in cc
+
+  -- a discard ends it too
+  pub kept_discard : (s : Submitted) (kept : List (List ℕ)) → IsKept honest s kept → IsKept honest (record s { job = next Act.Discard s.job }) []
+  kept_discard s kept k =
+      let e = done_next Act.Discard s.job tt in
+      let same = same_job Act.Discard s.job in
+      record {
+        build = same.kind ∙ k.build;
+        steps = same.steps ∙ k.steps;
+        fits = k.fits;
+        next = none_after;
+        begun = λ none. e ∙ k.begun none;
+        counted = λ live. absurd (over s.job.state s.job refl live);
+        made = λ h live. absurd (over s.job.state s.job refl live);
+      }
+    where
+      clash : false ≡ true → ⊥
+      clash h = cc
+
+      ended_state : (before : JobState) (job : JobRecord) → before ≡ job.state → is_live before ≡ false → is_live job.state ≡ true → ⊥
+      ended_state before job e dead live = clash (sym dead ∙ (ap is_live e ∙ live))
+
+      over : (before : JobState) (job : JobRecord) → before ≡ job.state → is_live (moved_or_same Act.Discard (state_after Act.Discard before) job).state ≡ true → ⊥
+      over Pending job e live = clash live
+      over Running job e live = clash live
+      over Error job e live = clash live
+      over Stopped job e live = clash live
+      over Discarded job e live = ended_state Discarded job e refl live
+      over Finished job e live = ended_state Finished job e refl live

@@ -1,5 +1,9 @@
 pub mod Pairs
 pub mod NextTasks
+pub mod Swaps
+pub mod Free
+pub mod RangeCopies
+pub mod NextSets
 pub mod Jobs
 pub mod TaskFacts
 pub mod Events

@@ -1,5 +1,5 @@
 -- The task of a job's next step is a task.
-use Rattle.std.proofs.Common.{◌≡◌, ℕ, ◌+◌, ◌-◌, ◌<◌, true, Option, Some, None, List, [], ◌∷◌, ◌++◌, length, slice_get, refl, ap, subst, arith}
+use Rattle.std.proofs.Common.{◌≡◌, ℕ, ◌-◌, ◌<◌, true, Option, Some, None, List, [], ◌∷◌, ◌++◌, length, slice_get, refl, ap, subst, arith}
 use Rattle.byte_frame.specs.Exact.{IsBytes}
 use Rattle.fixed_cube.specs.Cube.{FitsSnapshot, fact_rows, job_task, task_after}
 use Rattle.fixed_cube.specs.Tasks.{FitsTask, IsTask, is_product, task_text}

@@ -1,5 +1,5 @@
 -- Two lists, of which each item of the one belongs to one of the other.
-use Rattle.std.proofs.Common.{◌≡◌, ℕ, zero, suc, ◌-◌, Option, Some, None, List, [], ◌∷◌, ◌++◌, set, slice_get, unwrap_or, sym, subst, arith}
+use Rattle.std.proofs.Common.{◌≡◌, ℕ, zero, suc, ◌-◌, Some, List, [], ◌∷◌, ◌++◌, set, slice_get, unwrap_or, subst, arith}
 use Rattle.std.specs.List.{insert}
 use Rattle.byte_frame.specs.Spelling.{EachFits}
 use Rattle.run_history.specs.World.{Submitted, job_at}

@@ -1,15 +1,14 @@
 -- Tasks from the products that are kept, and what the last product is.
-use Rattle.std.proofs.Common.{◌≡◌, ℕ, zero, suc, ◌+◌, ◌-◌, ◌<◌, Bool, true, false, cond, Option, Some, None, List, [], ◌∷◌, ◌++◌, length, map, slice_get, unwrap_or, refl, sym, ap, ◌∙◌, subst, arith, add-one, append-nil, length-append}
+use Rattle.std.proofs.Common.{◌≡◌, ℕ, zero, suc, ◌+◌, ◌-◌, Bool, true, false, cond, Option, Some, None, List, [], ◌∷◌, ◌++◌, length, slice_get, refl, sym, ap, ◌∙◌, arith, add-one, length-append}
 use Rattle.std.specs.Option.{option_map}
-use Rattle.std.specs.List.{AllByRecursion, flat_map}
+use Rattle.std.specs.List.{flat_map}
 use Rattle.std.specs.Str.{bytes_eq}
 use Rattle.byte_frame.specs.Reading.{all_of}
 use Rattle.fixed_cube.specs.Cells.{Cell, base_of}
-use Rattle.fixed_cube.specs.Cube.{FitsSnapshot, fixed, job_task, rows_of, sealed_cells, task_after}
+use Rattle.fixed_cube.specs.Cube.{FitsSnapshot, fixed, job_task, rows_of, task_after}
 use Rattle.fixed_cube.specs.Cube.{snapshot_of as snapshot_in}
 use Rattle.fixed_cube.specs.Reading.{cells_at}
 use Rattle.fixed_cube.specs.Tasks.{product_in, product_of}
-use Rattle.fixed_cube.specs.declared.products.FixedProduct.{FixedProduct}
 use Rattle.fixed_cube.specs.declared.products.FixedProduct.TheVariants.{Rows, Cells}
 use Rattle.fixed_cube.proofs.JobFacts.{sealed_is}
 use Rattle.cube_val.specs.declared.val.Val.{Val}
@@ -18,7 +17,7 @@ use Rattle.job_machine.specs.declared.state.JobKind.TheVariants.{Build}
 use Rattle.plain_answer.specs.declared.ask.Ask.{Ask}
 use Rattle.run_history.specs.Cubes.{Snapshot}
 use Rattle.run_history.specs.World.{Submitted, World, in_force, is_live, next_task, origin_of, parts_by}
-use Rattle.fixed_state.specs.Kept.{IsKept, IsLoaded, first_snapshot}
+use Rattle.fixed_state.specs.Kept.{IsKept}
 use Rattle.fixed_state.specs.Tasks.{products_due, snapshot_now, task_by, task_kept}
 use Rattle.fixed_state.proofs.Jobs.{due_tables}
 
@@ -62,7 +61,7 @@ module _ (honest : Type 0) (w : World Ask) (s : Submitted) (kept : List (List �
 
 -- ---- the last product
 
-some_is : {A : Type 0} (x y : A) → Some x ≡ Some y → x ≡ y
+pub some_is : {A : Type 0} (x y : A) → Some x ≡ Some y → x ≡ y
 some_is x y e = cc
 
 cells_in : (o : Option (List Cell)) (cells : List Cell) → option_map Cells o ≡ Some (Cells cells) → o ≡ Some cells

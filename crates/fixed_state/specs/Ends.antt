@@ -1,5 +1,5 @@
 -- What is recorded of the ends of steps.
-use Rattle.std.specs.Prelude.{◌≡◌, ℕ, ◌-◌, Bool, true, false, List, [], ◌∷◌, ◌++◌, Vec, Option, Some, None, Result, Ok, Err, slice_get, slice_set, unwrap_or}
+use Rattle.std.specs.Prelude.{◌≡◌, ℕ, ◌-◌, true, false, List, [], ◌∷◌, ◌++◌, Vec, Option, Some, None, Result, Ok, Err, slice_get, slice_set, unwrap_or}
 use Rattle.std.specs.declared.alloc.Global.{Global}
 use Rattle.fixed_cube.specs.Tasks.{is_product}
 use Rattle.job_machine.specs.declared.state.Ended.{Ended}

@@ -1,5 +1,5 @@
 -- What is kept of a world.
-use Rattle.std.specs.Prelude.{◌≡◌, ℕ, true, List, [], ◌∷◌, Option, Some, None, length, unwrap_or}
+use Rattle.std.specs.Prelude.{◌≡◌, ℕ, true, List, [], ◌∷◌, Option, None, length, unwrap_or}
 use Rattle.std.specs.List.{AllByRecursion}
 use Rattle.byte_frame.specs.Spelling.{EachFits}
 use Rattle.fixed_cube.specs.Answers.{by_first}
@@ -13,10 +13,10 @@ use Rattle.run_history.specs.Sets.{Segment}
 use Rattle.run_history.specs.World.{Submitted, World, is_live}
 use Rattle.step_fields.specs.Fits.{FitsRows}
 use Rattle.fixed_state.specs.Ready.{base_of_segment}
-use Rattle.fixed_state.specs.States.{FixedState, StandsFor}
+use Rattle.fixed_state.specs.States.{FixedState, StandsFor, cells_of}
 use Rattle.fixed_state.specs.Tasks.{IsTaskAfter, products_due}
 use Rattle.run_history.specs.Invariants.{IsSound}
-use Rattle.run_state.specs.Orders.{IsOrderly, data_of, products_of}
+use Rattle.run_state.specs.Orders.{products_of}
 
 -- there is one table, and what was loaded fits it
 pub record IsLoaded (loaded : List (Option Rows)) : Type 0 where
@@ -57,5 +57,4 @@ pub record IsFixedState (honest : Type 0) (s : FixedState) : Type 0 where
   pub w : World Ask
   pub stands : StandsFor w s
   pub sound : IsSound fixed w
-  pub kept : AreKept honest w (products_of s) (data_of s)
-  pub orderly : IsOrderly s
+  pub kept : AreKept honest w (products_of s) (cells_of s)

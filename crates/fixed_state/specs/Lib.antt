@@ -1,5 +1,5 @@
+pub mod Ready
 pub mod States
 pub mod Tasks
 pub mod Ends
-pub mod Ready
 pub mod Kept

@@ -6,11 +6,11 @@ ghost use Rattle.fixed_cube.specs.Answers.{answer_of, by_first};
 ghost use Rattle.fixed_cube.specs.Cube.{fixed};
 ghost use Rattle.run_history.specs.Sets.{ReadySet, rows_of};
 ghost use Rattle.run_history.specs.Verdicts.{most_segments};
-ghost use Rattle.fixed_state.specs.Ready.{AreCellsOf};
+ghost use Rattle.fixed_state.specs.Ready.{AreCellsOf, cells_in};
 
+use crate::ready::{FixedReady, KeptSegment};
 use fixed_cube::{FixedCells, answer_over};
 use plain_answer::AnswerTable;
-use run_state::ReadySegment;
 use std::alloc::{AllocError, Global};
 use std::marker::Model;
 use std::sync::Arc;
@@ -79,29 +79,23 @@ impl Model for ReadyCells {
 }
 
 // Other handles of the segments' cells.
-fn copies(
-    alloc: Global,
-    segments: &[ReadySegment<SharedCells>],
-) -> Result<Vec<SharedCells>, AllocError>
-    ensures { IfOk result (λ copied. copied.items ≡ map (λ segment. segment.data) segments.now) }
+fn copies(alloc: Global, segments: &[Arc<KeptSegment>]) -> Result<Vec<SharedCells>, AllocError>
+    ensures { IfOk result (λ copied. copied.items ≡ map (λ segment. cells_in (arc_value segment)) segments.now) }
 {
     let mut copied = Vec::new(alloc);
     for segment in segments {
-        let cells = segment.data.copy()?;
+        let cells = segment.cells.copy()?;
         copied.push(cells)?;
     }
     Ok(copied)
 }
 
-/// The cells of these segments.
-pub fn ready_cells(
-    alloc: Global,
-    segments: &[ReadySegment<SharedCells>],
-) -> Result<ReadyCells, AllocError>
-    requires { length segments.now ≤ most_segments }
-    ensures { IfOk result (λ ready. ready ≡ map (λ segment. segment.data) segments.now) }
+/// The cells of the segments of a ready set.
+pub fn ready_cells(alloc: Global, ready: &FixedReady) -> Result<ReadyCells, AllocError>
+    requires { length ready.now.cells ≤ most_segments }
+    ensures { IfOk result (λ cells. cells ≡ ready.now.cells) }
 {
-    let segments = copies(alloc, segments)?;
+    let segments = copies(alloc, ready.segments())?;
     Ok(ReadyCells { segments })
 }
 

@@ -1,4 +1,4 @@
-//! What a run over the fixed cube keeps: the handles of loaded tables, the products of steps done and the cells of ready segments, as
+//! What a run over the fixed cube keeps: the handles of loaded tables, the products of steps done and the ready set, as
 //! the parameters of the bookkeeping of `run_state`; and what they have to do with the cube.
 //!
 //! At its boundary:
@@ -9,7 +9,7 @@
 //! - [`kept_by_turns`]: what is kept belongs to the world after every other turn too.
 //! - [`ReadyCells`] answers the one query over the cells of a ready set.
 //!
-//! The modules: `table`, `product`, `cells`: what is kept; `tasks`: tasks; `ends`: ends of steps; `laws`: what is kept, turn by turn; `examples`:
+//! The modules: `table`, `product`, `cells`, `ready`: what is kept; `tasks`: tasks; `ends`: ends of steps; `laws`: what is kept, turn by turn; `examples`:
 //! the definitions, computed.
 #![tactic(auto)]
 
@@ -18,6 +18,7 @@ mod ends;
 mod examples;
 mod laws;
 mod product;
+mod ready;
 mod table;
 mod tasks;
 
@@ -27,9 +28,10 @@ pub use examples::worked_examples;
 pub use laws::kept_by_turns;
 use plain_answer::Ask;
 pub use product::KeptProduct;
+pub use ready::{FixedReady, KeptSegment};
 use run_state::RunState;
 pub use table::SharedTable;
 pub use tasks::task_of_job;
 
 /// The state of a run over the fixed cube.
-pub type FixedState = RunState<SharedTable, KeptProduct, SharedCells, Ask>;
+pub type FixedState = RunState<SharedTable, KeptProduct, FixedReady, Ask>;

@@ -5,7 +5,8 @@ use Rattle.std.specs.Prelude.{option_map, slice_index_or}
 use Rattle.std.proofs.lemmas.Option.{slice_get-map}
 use Rattle.std.specs.List.{list_any}
 use Rattle.fixed_cube.specs.Cube.{fixed}
-use Rattle.fixed_state.specs.Kept.{IsLoaded}
+use Rattle.byte_frame.specs.Spelling.{EachFits}
+use Rattle.fixed_state.specs.Kept.{IsLoaded, IsReadyKept}
 use Rattle.fixed_state.specs.States.{FixedState, StandsFor, rows_seen}
 use Rattle.plain_answer.specs.declared.ask.Ask.{Ask as Query}
 use Rattle.run_history.specs.Bounds.{AreAtMost}
@@ -13,7 +14,7 @@ use Rattle.run_history.specs.Histories.{IsInFlight}
 use Rattle.run_history.specs.Invariants.{IsSound}
 use Rattle.run_history.specs.Verdicts.{most_segments}
 use Rattle.run_history.specs.World.{Submitted, World, busy, job_at}
-use Rattle.run_state.specs.States.{claim_of, in_flight_of, place_kept, place_of, submitted_of}
+use Rattle.run_state.specs.States.{claim_of, in_flight_of, submitted_of}
 use Rattle.run_state.specs.declared.parts.QueryInFlight.{QueryInFlight}
 use Rattle.run_state.proofs.Lists.{any_map}
 
@@ -22,6 +23,12 @@ get_at [] k d h = absurd (omega (arith, h))
 get_at (x ∷ xs) zero d h = refl
 get_at (x ∷ xs) (suc k) d h = get_at xs k d (omega (arith, h))
 
+same_count : {C A : Type 0} (F : C → A → Type 0) (cs : List C) (xs : List A) → EachFits F cs xs → length cs ≡ length xs
+same_count F [] [] h = refl
+same_count F [] (x ∷ xs) h = absurd h
+same_count F (c ∷ cs) [] h = absurd h
+same_count F (c ∷ cs) (x ∷ xs) h = ap suc (same_count F cs xs h.1)
+
 module _ (w : World Query) (s : FixedState) (i : StandsFor w s) where
   pub jobs_count : length s.jobs.items ≡ length w.jobs
   jobs_count = sym (ap length i.jobs ∙ length-map s.jobs.items (submitted_of rows_seen))
@@ -29,11 +36,12 @@ module _ (w : World Query) (s : FixedState) (i : StandsFor w s) where
   pub loaded_count : IsLoaded w.loaded → length s.loaded.items ≡ 1
   loaded_count l = sym (length-map s.loaded.items (option_map rows_seen)) ∙ (sym (ap length i.loaded) ∙ ap length l.only)
 
-  pub segments_count : length s.segments.items ≡ length w.ready
-  segments_count = sym (length-map s.segments.items place_kept) ∙ (sym (ap length i.ready) ∙ length-map w.ready place_of)
+  pub segments_few : IsSound fixed w → length s.ready.set.segments ≤ most_segments
+  segments_few sound = omega (arith, sym (ap length i.ready), sound.room)
 
-  pub segments_few : IsSound fixed w → length s.segments.items ≤ most_segments
-  segments_few sound = omega (arith, segments_count, sound.room)
+  -- there are cells for each segment
+  pub cells_count : (honest : Type 0) → EachFits (IsReadyKept honest) w.ready s.ready.cells → length s.ready.set.segments ≡ length s.ready.cells
+  cells_count honest k = ap length (sym i.ready) ∙ same_count (IsReadyKept honest) w.ready s.ready.cells k
 
   pub busy_count : length s.steps.items + length s.asked.items ≡ busy w
   busy_count =

@@ -7,7 +7,7 @@ use Rattle.fixed_cube.specs.Cube.{FitsSnapshot, fact_rows, fixed}
 use Rattle.fixed_cube.specs.Tasks.{IsTask}
 use Rattle.fixed_state.specs.Ends.{kept_of}
 use Rattle.fixed_state.specs.Kept.{AreKept, IsKept}
-use Rattle.fixed_state.specs.States.{FixedEntry, FixedState, StandsFor, rows_seen}
+use Rattle.fixed_state.specs.States.{FixedEntry, FixedState, StandsFor, cells_of, ready_seen, rows_seen}
 use Rattle.fixed_state.specs.Tasks.{snapshot_at, snapshot_now, task_kept}
 use Rattle.fixed_state.proofs.EndFacts.{job_there, kept_at}
 use Rattle.fixed_state.proofs.Events.{kept_of_job}
@@ -21,7 +21,7 @@ use Rattle.plain_answer.specs.declared.ask.Ask.{Ask as Query}
 use Rattle.run_history.specs.Cubes.{Rows}
 use Rattle.run_history.specs.Invariants.{IsSound}
 use Rattle.run_history.specs.World.{Submitted, World, is_live, job_at, job_of, next_task}
-use Rattle.run_state.specs.Orders.{data_of, is_claimable_at, products_of}
+use Rattle.run_state.specs.Orders.{is_claimable_at, products_of}
 use Rattle.run_state.specs.States.{entry_at, submitted_of}
 use Rattle.run_state.proofs.SoundStates.{queued}
 use Rattle.run_state.proofs.Turns.{has_first, job_by_entry}
@@ -43,12 +43,12 @@ live_unfinished state h e = clash (sym h ∙ ap is_live e)
 some_same : {A : Type 0} (x y : A) → Some x ≡ Some y → x ≡ y
 some_same x y e = cc
 
-module _ (honest : Type 0) (w : World Query) (s : FixedState) (i : StandsFor w s) (sound : IsSound fixed w) (k : AreKept honest w (products_of s) (data_of s)) (job : ℕ) where
+module _ (honest : Type 0) (w : World Query) (s : FixedState) (i : StandsFor w s) (sound : IsSound fixed w) (k : AreKept honest w (products_of s) (cells_of s)) (job : ℕ) where
   pub told_job : job_of w job ≡ option_map (submitted_of rows_seen) (entry_at s.jobs.items job)
   told_job = ap (λ (jobs : List Submitted). job_at jobs job) i.jobs ∙ job_by_entry rows_seen s.jobs.items job
 
   pub kept_job : (x : Submitted) → job_of w job ≡ Some x → IsKept honest x (kept_of (products_of s) job)
-  kept_job x e = kept_of_job honest w (products_of s) (data_of s) k job 0 x e
+  kept_job x e = kept_of_job honest w (products_of s) (cells_of s) k job 0 x e
 
   fits_job : (x : Submitted) → job_of w job ≡ Some x → FitsSnapshot (snapshot_now w x)
   fits_job x e = fits_tables x.tables x.range w.loaded k.loaded (kept_job x e).fits
@@ -90,7 +90,7 @@ module _ (honest : Type 0) (w : World Query) (s : FixedState) (i : StandsFor w s
 
   module _ (front : slice_get s.queue.items 0 ≡ Some job) where
     claimable_here : is_claimable_at (entry_at s.jobs.items job) ≡ true
-    claimable_here = sym (queued fixed rows_seen w s sound i job) ∙ has_first s.queue.items job front
+    claimable_here = sym (queued fixed rows_seen ready_seen w s sound i job) ∙ has_first s.queue.items job front
 
     pub there_here : IsSome (entry_at s.jobs.items job)
     there_here = by_entry (entry_at s.jobs.items job) claimable_here

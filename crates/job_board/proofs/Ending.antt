@@ -6,7 +6,7 @@ use Rattle.fixed_cube.specs.Tasks.{is_product, product_of}
 use Rattle.fixed_cube.proofs.JobFacts.{has_product}
 use Rattle.fixed_state.specs.Ends.{Answer, IsJudged, IsOutcomeOf, IsProductOf, ended_at, kept_of, outcome_of, stale_outcome}
 use Rattle.fixed_state.specs.Kept.{AreKept}
-use Rattle.fixed_state.specs.States.{FixedEntry, FixedState, StandsFor, rows_seen}
+use Rattle.fixed_state.specs.States.{FixedEntry, FixedState, StandsFor, rows_seen, cells_of}
 use Rattle.fixed_state.specs.Tasks.{snapshot_now, task_kept}
 use Rattle.fixed_state.proofs.Jobs.{fits_tables}
 use Rattle.fixed_state.proofs.TaskFacts.{next_of_build, task_is}
@@ -21,7 +21,7 @@ use Rattle.run_history.specs.World.{Submitted, World, job_of, next_task}
 use Rattle.run_history.specs.declared.event.Outcome.{Outcome}
 use Rattle.run_history.specs.declared.event.Outcome.TheVariants.{Damaged}
 use Rattle.run_history.proofs.Jobs.{current_counts, running_live}
-use Rattle.run_state.specs.Orders.{data_of, is_current_at, products_of}
+use Rattle.run_state.specs.Orders.{is_current_at, products_of}
 use Rattle.run_state.specs.States.{entry_at, submitted_of}
 use Rattle.job_board.proofs.Claiming.{kept_job, more_steps, told_job}
 
@@ -43,7 +43,7 @@ ended_by : (o : Option FixedEntry) (attempt : ℕ) (outcome : Outcome) → ended
 ended_by None attempt outcome = refl
 ended_by (Some entry) attempt outcome = refl
 
-module _ (honest : Type 0) (w : World Query) (s : FixedState) (i : StandsFor w s) (sound : IsSound fixed w) (k : AreKept honest w (products_of s) (data_of s)) (job attempt : ℕ) (answer : Answer) (outcome : Outcome) where
+module _ (honest : Type 0) (w : World Query) (s : FixedState) (i : StandsFor w s) (sound : IsSound fixed w) (k : AreKept honest w (products_of s) (cells_of s)) (job attempt : ℕ) (answer : Answer) (outcome : Outcome) where
   pub ended_same : ended_at (entry_at s.jobs.items job) attempt outcome ≡ ended_of (job_of w job) attempt outcome
   ended_same = ended_by (entry_at s.jobs.items job) attempt outcome ∙ ap (λ (o : Option Submitted). ended_of o attempt outcome) (sym (told_job honest w s i sound k job))
 

@@ -11,7 +11,7 @@ use Rattle.fixed_cube.specs.Cells.{Cell}
 use Rattle.fixed_cube.specs.Cube.{FitsSnapshot}
 use Rattle.fixed_state.specs.Kept.{AreKept, IsReadyKept}
 use Rattle.fixed_state.specs.Ready.{AreCellsOf, base_of_segment}
-use Rattle.fixed_state.specs.States.{FixedState, StandsFor}
+use Rattle.fixed_state.specs.States.{FixedState, StandsFor, cells_of}
 use Rattle.job_board.specs.BoardModel.{is_free, next_query}
 use Rattle.plain_answer.specs.declared.ask.Ask.{Ask as Query}
 use Rattle.run_history.specs.Histories.{IsFresh, IsInFlight, IsLawful, claim_count}
@@ -21,7 +21,7 @@ use Rattle.run_history.specs.World.{Asked, Waiting, World, number}
 use Rattle.run_history.specs.declared.event.QueryOut.{QueryOut}
 use Rattle.run_history.specs.declared.event.QueryOut.TheVariants.{Answered, Memory as NoAnswer}
 use Rattle.run_history.proofs.Lists.{cond_at_false, cond_at_true}
-use Rattle.run_state.specs.Orders.{IsOrderly, data_of, is_asking, products_of}
+use Rattle.run_state.specs.Orders.{is_asking, products_of}
 use Rattle.run_state.specs.States.{answered_in, claim_of, in_flight_of, waiting_of}
 use Rattle.run_state.specs.declared.parts.QueryInFlight.{QueryInFlight}
 use Rattle.run_state.specs.declared.parts.Session.{Session}
@@ -115,8 +115,8 @@ module _ (w : World Query) (s : FixedState) (i : StandsFor w s) where
       (none_there (position_or_len (λ (x : WaitingQuery Query). not (is_asking s.asked.items x.session)) s.waiting.items) (length s.waiting.items) found))
 
   -- the query of a line is the one at its place
-  pub line_is : (place : ℕ) (q : WaitingQuery Query) (x : Waiting Query) → IsOrderly s → slice_get s.waiting.items place ≡ Some q → find (λ other. other.line == q.line) w.waiting ≡ Some x → waiting_of q ≡ x
-  line_is place q x o there e = some_eq (waiting_of q) x (sym (ap (find (λ (other : Waiting Query). other.line == q.line)) i.waiting ∙ query_found 0 s.line s.waiting.items place q o.lines there) ∙ e)
+  pub line_is : (place : ℕ) (q : WaitingQuery Query) (x : Waiting Query) → slice_get s.waiting.items place ≡ Some q → find (λ other. other.line == q.line) w.waiting ≡ Some x → waiting_of q ≡ x
+  line_is place q x there e = some_eq (waiting_of q) x (sym (ap (find (λ (other : Waiting Query). other.line == q.line)) i.waiting ∙ query_found 0 s.line s.waiting.items place q s.rising there) ∙ e)
 
   pub asked_same : (line : ℕ) → list_any (λ q. q.line == line) s.asked.items ≡ list_any (λ q. q.waiting.line == line) w.asked
   asked_same line = ap (list_any (λ (q : QueryInFlight). q.line == line)) (sym i.asked) ∙ any_map in_flight_of (λ (q : QueryInFlight). q.line == line) w.asked
@@ -124,7 +124,7 @@ module _ (w : World Query) (s : FixedState) (i : StandsFor w s) where
   pub flight_same : (line : ℕ) → option_map in_flight_of (find (λ q. q.waiting.line == line) w.asked) ≡ find (λ q. q.line == line) s.asked.items
   flight_same line = find_map in_flight_of (λ (q : QueryInFlight). q.line == line) w.asked ∙ ap (find (λ (q : QueryInFlight). q.line == line)) i.asked
 
-  pub by_first_is : (honest : Type 0) (line : ℕ) (x : Waiting Query) → AreKept honest w (products_of s) (data_of s) → find (λ q. q.line == line) w.waiting ≡ Some x → x.query ≡ by_first
+  pub by_first_is : (honest : Type 0) (line : ℕ) (x : Waiting Query) → AreKept honest w (products_of s) (cells_of s) → find (λ q. q.line == line) w.waiting ≡ Some x → x.query ≡ by_first
   by_first_is honest line x k e = all_found (λ (q : Waiting Query). q.query ≡ by_first) (λ (q : Waiting Query). q.line == line) w.waiting x k.waiting e
 
 -- ---- ends of queries
@@ -155,7 +155,7 @@ module _ (w : World Query) (s : FixedState) (i : StandsFor w s) (line : ℕ) whe
     memory_here = (λ (h : true ≡ true). (in_flight_here, tt), λ (h : IsInFlight w line × IsFresh w (QueryEnds line NoAnswer)). refl)
 
     told_by : (o : Option (Asked Query)) → find (λ x. x.waiting.line == line) w.asked ≡ o → option_map in_flight_of o ≡ Some q → (version answered : ℕ) → answered ≡ answered_in s.sessions.items q.session
-        → IsLawful w o version ↔ ((q.at_command ≤ version) × (q.at_take ≤ version) × (answered ≤ version) × (version ≤ s.version))
+        → IsLawful w o version ↔ ((q.at_command ≤ version) × (q.at_take ≤ version) × (answered ≤ version) × (version ≤ s.ready.set.version))
     told_by None f g version answered a = absurd (no g)
       where
         no : None ≡ Some q → ⊥
@@ -165,11 +165,11 @@ module _ (w : World Query) (s : FixedState) (i : StandsFor w s) (line : ℕ) whe
         let command : x.waiting.at_command ≡ q.at_command = ap (λ (y : QueryInFlight). y.at_command) same in
         let take : x.at_take ≡ q.at_take = ap (λ (y : QueryInFlight). y.at_take) same in
         let last : w.answered x.waiting.session ≡ answered = i.answered x.waiting.session ∙ (ap (λ (y : QueryInFlight). answered_in s.sessions.items y.session) same ∙ sym a) in
-        let version_is : number w ≡ s.version = i.version in
+        let version_is : number w ≡ s.ready.set.version = i.version in
         (λ h. (omega (arith, h.0), omega (arith, h.1), omega (arith, h.2), omega (arith, h.3)), λ h. (omega (arith, h.0), omega (arith, h.1), omega (arith, h.2), omega (arith, h.3)))
 
     pub lawful_here : (version answered : ℕ) (b : Bool) → answered ≡ answered_in s.sessions.items q.session
-        → (b ≡ true) ↔ ((q.at_command ≤ version) × (q.at_take ≤ version) × (answered ≤ version) × (version ≤ s.version)) → (b ≡ true) ↔ (IsInFlight w line × IsFresh w (QueryEnds line (Answered version)))
+        → (b ≡ true) ↔ ((q.at_command ≤ version) × (q.at_take ≤ version) × (answered ≤ version) × (version ≤ s.ready.set.version)) → (b ≡ true) ↔ (IsInFlight w line × IsFresh w (QueryEnds line (Answered version)))
     lawful_here version answered b a h =
         let told = told_by (find (λ x. x.waiting.line == line) w.asked) refl (flight_same w s i line ∙ e) version answered a in
         (λ (f : b ≡ true). (in_flight_here, told.1 (h.0 f)), λ (f : IsInFlight w line × IsFresh w (QueryEnds line (Answered version))). h.1 (told.0 f.1))

@@ -3,7 +3,7 @@ use Rattle.std.proofs.Common.{◌≡◌, ℕ, ◌<◌, Option, Some, None, List,
 use Rattle.std.proofs.lemmas.List.{map-append, length-map}
 use Rattle.fixed_cube.specs.Cube.{fixed}
 use Rattle.fixed_state.specs.Kept.{AreKept, IsFixedState}
-use Rattle.fixed_state.specs.States.{FixedState, StandsFor}
+use Rattle.fixed_state.specs.States.{FixedState, StandsFor, cells_of}
 use Rattle.job_board.specs.Boards.{IsBoard}
 use Rattle.job_board.specs.Turns.{IsLog, IsRecorded, turn_of, turns_of}
 use Rattle.job_board.specs.declared.turn.BoardTurn.{BoardTurn}
@@ -29,7 +29,7 @@ use Rattle.run_history.proofs.Growth.{small_world}
 use Rattle.run_history.proofs.Laws.{Along-push, world-push}
 use Rattle.run_history.proofs.Sound.{empty_starts, sound_world}
 use Rattle.run_state.specs.Answers.{named}
-use Rattle.run_state.specs.Orders.{IsOrderly, data_of, products_of}
+use Rattle.run_state.specs.Orders.{products_of}
 
 pub has_steps : HasSteps fixed
 has_steps kind = omega arith
@@ -67,15 +67,14 @@ module _ (honest : Type 0) (workers room : ℕ) (names : List (List ℕ)) (s : F
 
   -- one turn more
   pub board_step : (turn : BoardTurn) (s' : FixedState) (log' : Log) → 0 < room → IsBoard honest workers room names s log → IsRecorded log turn log'
-      → Allowed world_now (turn_of turn) → IsFresh world_now (turn_of turn) → StandsFor (step fixed world_now (turn_of turn)) s' → IsOrderly s'
-      → AreKept honest (step fixed world_now (turn_of turn)) (products_of s') (data_of s') → IsBoard honest workers 0 names s' log'
-  board_step turn s' log' h b r allowed fresh stands orderly kept =
+      → Allowed world_now (turn_of turn) → IsFresh world_now (turn_of turn) → StandsFor (step fixed world_now (turn_of turn)) s'
+      → AreKept honest (step fixed world_now (turn_of turn)) (products_of s') (cells_of s') → IsBoard honest workers 0 names s' log'
+  board_step turn s' log' h b r allowed fresh stands kept =
       let same = turns_added log turn log' r in
       let e : world fixed workers [] (turns_of log'.turns.items) ≡ step fixed world_now (turn_of turn) = ap (world fixed workers []) same ∙ world-push fixed workers [] so_far (turn_of turn) in
       record {
         state = subst (λ (w : World Query). StandsFor w s') (sym e) stands;
-        orderly = orderly;
-        kept = subst (λ (w : World Query). AreKept honest w (products_of s') (data_of s')) (sym e) kept;
+        kept = subst (λ (w : World Query). AreKept honest w (products_of s') (cells_of s')) (sym e) kept;
         legal = subst (IsLegal fixed workers []) (sym same) (Along-push fixed Allowed (start workers 1 []) so_far (turn_of turn) b.legal allowed);
         fresh = subst (HasFreshAnswers fixed workers []) (sym same) (Along-push fixed IsFresh (start workers 1 []) so_far (turn_of turn) b.fresh fresh);
         log = log_push room log turn log' h b.log r;
@@ -83,14 +82,13 @@ module _ (honest : Type 0) (workers room : ℕ) (names : List (List ℕ)) (s : F
       }
 
   -- the same turns, in a log with other room and in a state that stands for the same world
-  pub board_again : (room' : ℕ) (s' : FixedState) (log' : Log) → IsBoard honest workers room names s log → log'.turns.items ≡ log.turns.items → IsLog room' log' → StandsFor world_now s' → IsOrderly s'
-      → products_of s' ≡ products_of s → data_of s' ≡ data_of s → IsBoard honest workers room' names s' log'
-  board_again room' s' log' b same l stands orderly products cells =
+  pub board_again : (room' : ℕ) (s' : FixedState) (log' : Log) → IsBoard honest workers room names s log → log'.turns.items ≡ log.turns.items → IsLog room' log' → StandsFor world_now s'
+      → products_of s' ≡ products_of s → cells_of s' ≡ cells_of s → IsBoard honest workers room' names s' log'
+  board_again room' s' log' b same l stands products cells =
       let e : world fixed workers [] (turns_of log'.turns.items) ≡ world_now = ap (λ (turns : List BoardTurn). world fixed workers [] (turns_of turns)) same in
       record {
         state = subst (λ (w : World Query). StandsFor w s') (sym e) stands;
-        orderly = orderly;
-        kept = subst (λ (w : World Query). AreKept honest w (products_of s') (data_of s')) (sym e) (rw (products, cells) b.kept);
+        kept = subst (λ (w : World Query). AreKept honest w (products_of s') (cells_of s')) (sym e) (rw (products, cells) b.kept);
         legal = subst (λ (turns : List BoardTurn). IsLegal fixed workers [] (turns_of turns)) (sym same) b.legal;
         fresh = subst (λ (turns : List BoardTurn). HasFreshAnswers fixed workers [] (turns_of turns)) (sym same) b.fresh;
         log = l;
@@ -108,7 +106,7 @@ module _ (honest : Type 0) (workers room : ℕ) (names : List (List ℕ)) (s : F
     small_now = let n : length log.turns.items ≡ vec_len log.turns = omega (arith, log.turns.ok.0) in subst (λ (n : ℕ). AreAtMost n world_now) (length-map log.turns.items turn_of ∙ n) (small_world fixed workers [] so_far)
 
     pub fixed_now : IsFixedState honest s
-    fixed_now = record { w = world_now; stands = b.state; sound = sound_now; kept = b.kept; orderly = b.orderly }
+    fixed_now = record { w = world_now; stands = b.state; sound = sound_now; kept = b.kept }
 
 -- ---- turns that the calls' clauses name otherwise
 

@@ -1,4 +1,5 @@
-pub mod Turns
 pub mod BoardModel
 pub mod Boards
 pub mod Examples
+pub mod Ledger
+pub mod Turns

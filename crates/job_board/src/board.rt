@@ -23,24 +23,23 @@ ghost use Rattle.run_history.specs.Verdicts.{most_segments, verdict};
 ghost use Rattle.run_history.specs.World.{Submitted, Waiting, Asked, busy, job_of, next_task, number};
 ghost use Rattle.run_history.specs.declared.event.Outcome.{Outcome};
 ghost use Rattle.run_history.specs.declared.event.Outcome.TheVariants.{Damaged};
-ghost use Rattle.run_state.specs.Answers.{steer_answer};
-ghost use Rattle.run_state.specs.States.{answered_in, place_kept, place_of, submitted_of};
+ghost use Rattle.run_state.specs.Answers.{products_steered, refusal_of, steer_answer};
+ghost use Rattle.run_state.specs.States.{answered_in, submitted_of};
 ghost use Rattle.step_fields.specs.Fits.{FitsRows};
 ghost use Rattle.job_board.specs.declared.answers.BoardRefusal.TheVariants.{Memory};
 ghost use Rattle.plain_answer.specs.declared.ask.Ask.{Ask as Query};
 
+use crate::BoardJob;
 use crate::answers::{BoardRefusal, QueryWork, StepEnd, Work};
 use crate::turn::{BoardTurn, Log, record_turn, reserve_log};
 use cube_val::{NameText, Table};
 use fixed_cube::by_first;
-use fixed_state::{
-    FixedState, KeptProduct, SharedCells, SharedTable, end_step, ready_cells, task_of_job,
-};
+use fixed_state::{FixedReady, FixedState, SharedTable, end_step, ready_cells, task_of_job};
 use job_machine::{Ended, Job, JobKind};
 use outside::{HandFault, Honest};
 use range_list::Range;
 use run_history::{Control, Event, Noted, Outcome, QueryOut, Refused};
-use run_state::{Claim, Controlled, JobEntry, QueryInFlight, ReadySegment, Session};
+use run_state::{Claim, Controlled, QueryInFlight, ReadyHandle, Session};
 use std::alloc::{AllocError, Global};
 use std::marker::{Model, PhantomData};
 use std::sync::Arc;
@@ -151,7 +150,7 @@ impl<H: Honest> Board<H> {
         ensures { IfOk result (λ board. board ≡ record { workers = workers; log = []; room = 0; products = [] }) }
     {
         let names = table_names(alloc)?;
-        let state = run_state::new_state(alloc, workers, 1)?;
+        let state = run_state::new_state(alloc, workers, 1, FixedReady::new(alloc))?;
         Ok(Board {
             alloc,
             workers,
@@ -248,13 +247,13 @@ impl<H: Honest> Board<H> {
         Ok(number)
     }
 
-    /// Pauses, resumes or discards a job, or refuses to. It takes no memory.
+    /// Pauses, resumes or discards a job, or refuses to. Of a job that is discarded no product is kept. It takes no memory.
     pub fn control(&mut self, line: u32, control: Control, job: u32) -> Result<Controlled, Refused>
         requires room { 0 < self.old.room }
         requires above { (now self.old).line < line }
         ensures answer { result ≡ steer_answer control job (job_of (now self.old) job) }
         ensures added { IsAdded self.old (Takes line (Steer control job)) self.new }
-        ensures products { self.new.products ≡ self.old.products }
+        ensures products { self.new.products ≡ products_steered control (refusal_of result) job self.old.products }
     {
         let answer = run_state::control_job(&mut self.state, line, control, job);
         record_turn(&mut self.log, BoardTurn::Steers(line, control, job));
@@ -400,11 +399,11 @@ impl<H: Honest> Board<H> {
         let Some(place) = run_state::next_query(&self.state) else {
             return Ok(None);
         };
-        let cells = match ready_cells(self.alloc, &self.state.segments) {
+        let cells = match ready_cells(self.alloc, &self.state.ready) {
             Ok(cells) => cells,
             Err(e) => return Err(e),
         };
-        let version = self.state.version;
+        let version = self.state.ready.version();
         let query = match run_state::take_query(&mut self.state, place) {
             Ok(query) => query,
             Err(e) => return Err(e),
@@ -450,7 +449,7 @@ impl<H: Honest> Board<H> {
             QueryOut::Memory => true,
             QueryOut::Answered(version) => {
                 let answered = answered_of(&self.state.sessions, query.session);
-                is_lawful(query, answered, self.state.version, *version)
+                is_lawful(query, answered, self.state.ready.version(), *version)
             }
         }
     }
@@ -483,7 +482,7 @@ impl<H: Honest> Board<H> {
     }
 
     /// The jobs by number, the first of which is job 1.
-    pub fn jobs(&self) -> &[JobEntry<SharedTable, KeptProduct>]
+    pub fn jobs(&self) -> &[BoardJob]
         ensures jobs { map (submitted_of rows_seen) result.now ≡ (now self.now).jobs }
         ensures few { length result.now ≤ 4_000_000_000 }
 
@@ -505,12 +504,13 @@ impl<H: Honest> Board<H> {
         Some(&entry.job)
     }
 
-    /// The ready segments, in rising order of their ranges.
-    pub fn ready(&self) -> &[ReadySegment<SharedCells>]
-        ensures ready { map place_kept result.now ≡ map place_of (now self.now).ready }
-        ensures few { length result.now ≤ most_segments }
+    /// The ready set.
+    pub fn ready(&self) -> &FixedReady
+        ensures ready { result.now.set.segments ≡ (now self.now).ready }
+        ensures version { result.now.set.version ≡ number (now self.now) }
+        ensures few { length result.now.set.segments ≤ most_segments }
     {
-        &self.state.segments
+        &self.state.ready
     }
 
     /// How many queries were accepted.

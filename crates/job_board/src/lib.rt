@@ -8,6 +8,8 @@
 //! Room for a turn is reserved before it (`reserve_turn`), so that `control`, `note`, `end_query` and the end of an attempt that doesn't
 //! count take no memory. A board knows one kind of job, BUILD, and the one query of the fixed cube.
 //!
+//! What stands above speaks of the board's cube, its query and its hands' answers by the words of `specs/Ledger.antt`.
+//!
 //! The modules: `turn`: turns and the log of them; `board`: the board; `answers`: what its calls answer; `examples`: the definitions, computed.
 #![tactic(auto)]
 
@@ -20,4 +22,9 @@ pub use answers::{BoardRefusal, QueryWork, StepEnd, Work};
 pub use board::Board;
 pub use examples::worked_examples;
 pub use fixed_cube::SmallWork;
+use fixed_state::{KeptProduct, SharedTable};
+use run_state::JobEntry;
 pub use turn::BoardTurn;
+
+/// A job of a board, with what is kept of it.
+pub type BoardJob = JobEntry<SharedTable, KeptProduct>;

@@ -1,6 +1,5 @@
 pub mod Lists
 pub mod Entries
-pub mod Swaps
 pub mod Ends
 pub mod Refusals
 pub mod Turns

@@ -14,7 +14,9 @@ use Rattle.run_history.specs.Cubes.{Rows}
 use Rattle.run_history.specs.Histories.{IsNextOfSession}
 use Rattle.run_history.specs.World.{Asked, Waiting, World}
 use Rattle.run_state.specs.States.{IsStateOf, answered_in, claim_of, in_flight_of, waiting_of}
-use Rattle.run_state.specs.Orders.{AreListed, AreRising, IsOrderly, has_session, is_asking}
+use Rattle.run_state.specs.Numbered.{NumberedSet}
+use Rattle.run_state.specs.Orderly.{AreListed, AreRising, has_session}
+use Rattle.run_state.specs.Orders.{is_asking}
 use Rattle.run_state.specs.declared.parts.Claim.{Claim}
 use Rattle.run_state.specs.declared.parts.QueryInFlight.{QueryInFlight}
 use Rattle.run_state.specs.declared.parts.RunState.{RunState}
@@ -352,14 +354,14 @@ single_not : (b : Bool) → not b ≡ true → b ≡ false
 single_not true h = cc
 single_not false h = refl
 
-module _ {T P S Q : Type 0} (rows : T → Rows) (s : RunState T P S Q) where
+module _ {T P R Q : Type 0} (rows : T → Rows) (ready_set : R → NumberedSet) (s : RunState T P R Q) where
   abbrev is_free : WaitingQuery Q → Bool
   is_free q = not (is_asking s.asked.items q.session)
 
-  next_of : (place : ℕ) (q : WaitingQuery Q) (w : World Q) → position is_free s.waiting.items ≡ Some place → IsOrderly s → slice_get s.waiting.items place ≡ Some q → IsStateOf rows w s
+  next_of : (place : ℕ) (q : WaitingQuery Q) (w : World Q) → position is_free s.waiting.items ≡ Some place → slice_get s.waiting.items place ≡ Some q → IsStateOf rows ready_set w s
       → IsNextOfSession w (find (λ other. other.line == q.line) w.waiting)
-  next_of place q w found o there i =
-      subst (IsNextOfSession w) (sym (ap (find (λ other. other.line == q.line)) i.waiting ∙ query_found 0 s.line s.waiting.items place q o.lines there)) (
+  next_of place q w found there i =
+      subst (IsNextOfSession w) (sym (ap (find (λ other. other.line == q.line)) i.waiting ∙ query_found 0 s.line s.waiting.items place q s.rising there)) (
         ap (option_map (λ (first : Waiting Q). first.line)) (ap (find (λ (first : Waiting Q). first.session == q.session)) i.waiting ∙ first_of_session s.waiting.items place q there others),
         sym (any_map in_flight_of (λ (x : QueryInFlight). x.session == q.session) w.asked) ∙ (ap (list_any (λ (x : QueryInFlight). x.session == q.session)) i.asked ∙ free),
       )
@@ -377,7 +379,7 @@ module _ {T P S Q : Type 0} (rows : T → Rows) (s : RunState T P S Q) where
           clash : true ≡ false → ⊥
           clash h = cc
 
-  pub next_found : (o : Option ℕ) → o ≡ position is_free s.waiting.items → IsOrderly s
-      → IfSome o (λ place. (q : WaitingQuery Q) → slice_get s.waiting.items place ≡ Some q → (w : World Q) → IsStateOf rows w s → IsNextOfSession w (find (λ other. other.line == q.line) w.waiting))
-  next_found None e o = tt
-  next_found (Some place) e o = λ q there w i. next_of place q w (sym e) o there i
+  pub next_found : (o : Option ℕ) → o ≡ position is_free s.waiting.items
+      → IfSome o (λ place. (q : WaitingQuery Q) → slice_get s.waiting.items place ≡ Some q → (w : World Q) → IsStateOf rows ready_set w s → IsNextOfSession w (find (λ other. other.line == q.line) w.waiting))
+  next_found None e = tt
+  next_found (Some place) e = λ q there w i. next_of place q w (sym e) there i

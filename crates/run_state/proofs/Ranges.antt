@@ -14,23 +14,19 @@ use Rattle.run_history.specs.World.{World, is_live}
 use Rattle.run_history.specs.declared.refused.Refused.{Refused}
 use Rattle.run_history.specs.declared.refused.Refused.TheVariants as refused
 use Rattle.run_state.specs.Answers.{named, of_cover}
-use Rattle.run_state.specs.Orders.{IsOrderly}
+use Rattle.run_state.specs.Numbered.{NumberedSet}
 use Rattle.run_state.specs.States.{IsStateOf}
 use Rattle.run_state.specs.declared.parts.JobEntry.{JobEntry}
 use Rattle.run_state.specs.declared.parts.RunState.{RunState}
 use Rattle.run_state.proofs.Lists.{any_map}
 use Rattle.run_state.proofs.Builds.{job_told}
 use Rattle.run_state.proofs.Coverings.{first_of_five, first_of_four, first_of_two}
-use Rattle.run_state.proofs.Refusals.{ready_ranges}
+use Rattle.run_state.proofs.Refusals.{ranges_here}
 
-module _ {T P S Q : Type 0} (rows : T → Rows) (w : World Q) (s : RunState T P S Q) (i : IsStateOf rows w s) (orderly : IsOrderly s) where
-  -- the ranges of the ready segments stand in their list
-  pub ranges_here : ranges_of w.ready ≡ s.ranges
-  ranges_here = ready_ranges rows w s i ∙ sym orderly.ranges
-
+module _ {Q : Type 0} (w : World Q) (ranges : List Interval) (here : ranges_of w.ready ≡ ranges) where
   -- a ready segment has the range
-  pub ready_here : (r : Interval) (b : Bool) → b ≡ list_any (λ other. is_same_range r other) s.ranges → is_ready r w.ready ≡ b
-  ready_here r b e = sym (any_map (λ (x : Segment). x.range) (is_same_range r) w.ready) ∙ (ap (list_any (is_same_range r)) ranges_here ∙ sym e)
+  pub ready_here : (r : Interval) (b : Bool) → b ≡ list_any (λ other. is_same_range r other) ranges → is_ready r w.ready ≡ b
+  ready_here r b e = sym (any_map (λ (x : Segment). x.range) (is_same_range r) w.ready) ∙ (ap (list_any (is_same_range r)) here ∙ sym e)
 
 module _ {Q : Type 0} (w : World Q) (r : Interval) where
   -- ---- a drop
@@ -65,28 +61,28 @@ merge_lookups cube w r =
 
 -- ---- what the calls put together
 
-module _ {T P S Q : Type 0} (rows : T → Rows) (w : World Q) (s : RunState T P S Q) (i : IsStateOf rows w s) (orderly : IsOrderly s) (r : Interval) where
+module _ {T P R Q : Type 0} (rows : T → Rows) (ready_set : R → NumberedSet) (w : World Q) (s : RunState T P R Q) (i : IsStateOf rows ready_set w s) (ranges : List Interval) (h : ranges ≡ ranges_of (ready_set s.ready).segments) (r : Interval) where
   abbrev one_kept : Bool
-  one_kept = list_any (λ other. is_same_range r other) s.ranges
+  one_kept = list_any (λ other. is_same_range r other) ranges
 
   abbrev job_kept : Option Refused
   job_kept = option_map refused.OverlapsJob (option_map (λ (e : JobEntry T P). e.job.id) (find (λ (e : JobEntry T P). is_live e.job.state && is_overlap e.range r) s.jobs.items))
 
   job_here : (names : List (List ℕ)) → overlaps_job (named names) r w ≡ job_kept
-  job_here names = job_told rows w s i names r (option_map (λ (e : JobEntry T P). e.job.id) (find (λ (e : JobEntry T P). is_live e.job.state && is_overlap e.range r) s.jobs.items)) refl
+  job_here names = job_told rows ready_set w s i names r (option_map (λ (e : JobEntry T P). e.job.id) (find (λ (e : JobEntry T P). is_live e.job.state && is_overlap e.range r) s.jobs.items)) refl
 
   pub drop_told : (segment job both : Option Refused) → both ≡ option_or segment job → segment ≡ refused_if (not one_kept) refused.NoSuchSegment → job ≡ job_kept → both ≡ verdict (named []) w (Drop r)
-  drop_told segment job both h a b =
-      h ∙ (ap (λ (x : Option Refused). option_or x job) a ∙ (ap (option_or (refused_if (not one_kept) refused.NoSuchSegment)) b
-      ∙ drop_by w r one_kept job_kept (ready_here rows w s i orderly r one_kept refl) (job_here [])))
+  drop_told segment job both both_is a b =
+      both_is ∙ (ap (λ (x : Option Refused). option_or x job) a ∙ (ap (option_or (refused_if (not one_kept) refused.NoSuchSegment)) b
+      ∙ drop_by w r one_kept job_kept (ready_here w ranges (ranges_here rows ready_set w s i ranges h) r one_kept refl) (job_here [])))
 
   pub refresh_told : (names : List (List ℕ)) (segment job both : Option Refused) → not_loaded (named names) w ≡ None → both ≡ option_or segment job → segment ≡ refused_if (not one_kept) refused.NoSuchSegment
       → job ≡ job_kept → both ≡ verdict (named names) w (Submit Refresh r)
-  refresh_told names segment job both n h a b =
-      h ∙ (ap (λ (x : Option Refused). option_or x job) a ∙ (ap (option_or (refused_if (not one_kept) refused.NoSuchSegment)) b
-      ∙ refresh_by w r names one_kept job_kept n (ready_here rows w s i orderly r one_kept refl) (job_here names)))
+  refresh_told names segment job both n both_is a b =
+      both_is ∙ (ap (λ (x : Option Refused). option_or x job) a ∙ (ap (option_or (refused_if (not one_kept) refused.NoSuchSegment)) b
+      ∙ refresh_by w r names one_kept job_kept n (ready_here w ranges (ranges_here rows ready_set w s i ranges h) r one_kept refl) (job_here names)))
 
   pub merge_told : (range job both : Option Refused) → both ≡ option_or range job → range ≡ of_cover (is_on_bounds r w.ready) (is_ready r w.ready) (first_free_day r w.ready) → job ≡ job_kept
       → both ≡ verdict (named []) w (Submit Merge r)
-  merge_told range job both h a b =
-      h ∙ (ap (λ (x : Option Refused). option_or x job) a ∙ (ap (option_or (of_cover (is_on_bounds r w.ready) (is_ready r w.ready) (first_free_day r w.ready))) b ∙ merge_by w r job_kept (job_here [])))
+  merge_told range job both both_is a b =
+      both_is ∙ (ap (λ (x : Option Refused). option_or x job) a ∙ (ap (option_or (of_cover (is_on_bounds r w.ready) (is_ready r w.ready) (first_free_day r w.ready))) b ∙ merge_by w r job_kept (job_here [])))

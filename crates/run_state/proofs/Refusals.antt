@@ -10,15 +10,16 @@ use Rattle.range_list.specs.Ranges.{Interval}
 use Rattle.run_history.specs.Commands.Command.{Submit}
 use Rattle.run_history.specs.Cubes.{Rows}
 use Rattle.run_history.specs.Histories.{is_empty}
-use Rattle.run_history.specs.Sets.{Segment, ReadySet, is_overlap}
+use Rattle.run_history.specs.Invariants.{ranges_of}
+use Rattle.run_history.specs.Sets.{Segment, is_overlap}
 use Rattle.run_history.specs.Verdicts.{first_not_loaded, first_of, most_segments, not_loaded, overlaps_job, overlaps_segment, refused_if, too_many_segments, verdict}
 use Rattle.run_history.specs.World.{Submitted, World, is_build, is_live, live_builds}
 use Rattle.run_history.specs.declared.refused.Refused.{Refused}
 use Rattle.run_history.specs.declared.refused.Refused.TheVariants.{OverlapsJob, OverlapsSegment, TooManySegments}
 use Rattle.run_state.specs.Answers.{named}
-use Rattle.run_state.specs.States.{IsStateOf, Place, place_kept, place_of, submitted_of}
+use Rattle.run_state.specs.Numbered.{NumberedSet}
+use Rattle.run_state.specs.States.{IsStateOf, submitted_of}
 use Rattle.run_state.specs.declared.parts.JobEntry.{JobEntry}
-use Rattle.run_state.specs.declared.parts.ReadySegment.{ReadySegment}
 use Rattle.run_state.specs.declared.parts.RunState.{RunState}
 use Rattle.run_state.proofs.Lists.{find_map, some_eq}
 
@@ -97,42 +98,35 @@ module _ {Q : Type 0} (names : List (List ℕ)) (w : World Q) (r : Interval) whe
 
 -- ---- what stands in a state
 
-module _ {T P S Q : Type 0} (rows : T → Rows) (w : World Q) (s : RunState T P S Q) where
-  pub ready_count : IsStateOf rows w s → length w.ready ≡ length s.segments.items
-  ready_count i = sym (length-map w.ready place_of) ∙ (ap length i.ready ∙ length-map s.segments.items place_kept)
-
-  pub builds_count : IsStateOf rows w s → live_builds w.jobs ≡ count_by (λ (e : JobEntry T P). is_live e.job.state && is_build e.job.kind) s.jobs.items
-  builds_count i = ap live_builds i.jobs ∙ count_map (submitted_of rows) (λ (x : Submitted). is_live x.job.state && is_build x.job.kind) s.jobs.items
-
-  -- the ranges of the ready segments
-  ranges_kept : (segments : List (ReadySegment S)) → map (λ (p : Place). p.range) (map place_kept segments) ≡ map (λ (x : ReadySegment S). x.range) segments
-  ranges_kept [] = refl
-  ranges_kept (x ∷ segments) = ap (λ l. x.range ∷ l) (ranges_kept segments)
-
-  ranges_of_set : (set : ReadySet) → map (λ (p : Place). p.range) (map place_of set) ≡ map (λ (x : Segment). x.range) set
-  ranges_of_set [] = refl
-  ranges_of_set (x ∷ set) = ap (λ l. x.range ∷ l) (ranges_of_set set)
-
-  pub ready_ranges : IsStateOf rows w s → map (λ (x : Segment). x.range) w.ready ≡ map (λ (x : ReadySegment S). x.range) s.segments.items
-  ready_ranges i = sym (ranges_of_set w.ready) ∙ (ap (map (λ (p : Place). p.range)) i.ready ∙ ranges_kept s.segments.items)
-
-  told_range : (o : Option Segment) → option_map (λ (x : Segment). OverlapsSegment x.range) o ≡ option_map OverlapsSegment (option_map (λ (x : Segment). x.range) o)
-  told_range None = refl
-  told_range (Some x) = refl
-
-  pub segment_found : (r : Interval) → IsStateOf rows w s → option_map (λ (x : Segment). OverlapsSegment x.range) (find (λ (x : Segment). is_overlap x.range r) w.ready)
-      ≡ option_map OverlapsSegment (find (λ (x : Interval). is_overlap x r) (map (λ (x : ReadySegment S). x.range) s.segments.items))
-  segment_found r i =
-      told_range (find (λ (x : Segment). is_overlap x.range r) w.ready)
-      ∙ ap (option_map OverlapsSegment) (find_map (λ (x : Segment). x.range) (λ (x : Interval). is_overlap x r) w.ready ∙ ap (find (λ (x : Interval). is_overlap x r)) (ready_ranges i))
+module _ {T P R Q : Type 0} (rows : T → Rows) (ready_set : R → NumberedSet) (w : World Q) (s : RunState T P R Q) (i : IsStateOf rows ready_set w s) where
+  pub builds_count : live_builds w.jobs ≡ count_by (λ (e : JobEntry T P). is_live e.job.state && is_build e.job.kind) s.jobs.items
+  builds_count = ap live_builds i.jobs ∙ count_map (submitted_of rows) (λ (x : Submitted). is_live x.job.state && is_build x.job.kind) s.jobs.items
 
   told_job : (o : Option (JobEntry T P)) → option_map (λ (x : Submitted). OverlapsJob x.job.id) (option_map (submitted_of rows) o) ≡ option_map OverlapsJob (option_map (λ (e : JobEntry T P). e.job.id) o)
   told_job None = refl
   told_job (Some x) = refl
 
-  pub job_found : (r : Interval) → IsStateOf rows w s → option_map (λ (x : Submitted). OverlapsJob x.job.id) (find (λ (x : Submitted). is_live x.job.state && is_overlap x.range r) w.jobs)
+  pub job_found : (r : Interval) → option_map (λ (x : Submitted). OverlapsJob x.job.id) (find (λ (x : Submitted). is_live x.job.state && is_overlap x.range r) w.jobs)
       ≡ option_map OverlapsJob (option_map (λ (e : JobEntry T P). e.job.id) (find (λ (e : JobEntry T P). is_live e.job.state && is_overlap e.range r) s.jobs.items))
-  job_found r i =
+  job_found r =
       ap (λ (jobs : List Submitted). option_map (λ (x : Submitted). OverlapsJob x.job.id) (find (λ (x : Submitted). is_live x.job.state && is_overlap x.range r) jobs)) i.jobs
       ∙ (ap (option_map (λ (x : Submitted). OverlapsJob x.job.id)) (sym (find_map (submitted_of rows) (λ (x : Submitted). is_live x.job.state && is_overlap x.range r) s.jobs.items))
       ∙ told_job (find (λ (e : JobEntry T P). is_live e.job.state && is_overlap e.range r) s.jobs.items))
+
+  -- the ranges of the ready segments
+  module _ (ranges : List Interval) (h : ranges ≡ ranges_of (ready_set s.ready).segments) where
+    pub ranges_here : ranges_of w.ready ≡ ranges
+    ranges_here = ap ranges_of i.ready ∙ sym h
+
+    pub ready_count : length w.ready ≡ length ranges
+    ready_count = sym (length-map w.ready (λ (x : Segment). x.range)) ∙ ap length ranges_here
+
+    told_range : (o : Option Segment) → option_map (λ (x : Segment). OverlapsSegment x.range) o ≡ option_map OverlapsSegment (option_map (λ (x : Segment). x.range) o)
+    told_range None = refl
+    told_range (Some x) = refl
+
+    pub segment_found : (r : Interval) → option_map (λ (x : Segment). OverlapsSegment x.range) (find (λ (x : Segment). is_overlap x.range r) w.ready)
+        ≡ option_map OverlapsSegment (find (λ (x : Interval). is_overlap x r) ranges)
+    segment_found r =
+        told_range (find (λ (x : Segment). is_overlap x.range r) w.ready)
+        ∙ ap (option_map OverlapsSegment) (find_map (λ (x : Segment). x.range) (λ (x : Interval). is_overlap x r) w.ready ∙ ap (find (λ (x : Interval). is_overlap x r)) ranges_here)

@@ -1,5 +1,5 @@
 -- What a turn makes of the jobs of a state, and of the world's.
-use Rattle.std.proofs.Common.{◌≡◌, ℕ, zero, suc, ◌+◌, ◌-◌, ◌<◌, ◌≤◌, Bool, true, false, cond, ◌&&◌, ◌||◌, Option, Some, None, List, [], ◌∷◌, ◌++◌, length, map, set, slice_get, unwrap_or, refl, sym, ap, ◌∙◌, subst, arith, length-set}
+use Rattle.std.proofs.Common.{◌≡◌, ℕ, zero, suc, ◌+◌, ◌-◌, ◌<◌, ◌≤◌, Bool, true, false, cond, ◌&&◌, ◌||◌, Option, Some, None, List, [], ◌∷◌, ◌++◌, length, map, set, slice_get, unwrap_or, refl, sym, ap, ◌∙◌, subst, arith, length-append, length-set}
 use Rattle.std.specs.Prelude.{option_map}
 use Rattle.std.proofs.lemmas.List.{map-set, map-append, length-map}
 use Rattle.std.proofs.lemmas.Option.{slice_get-map, slice_get_within}
@@ -7,31 +7,29 @@ use Rattle.job_list.specs.JobList.{has}
 use Rattle.job_machine.specs.Job.{Act, JobRecord, after_end, ended_failed, ended_ok, is_claimable, is_current, is_last_step, is_running, new_job, next, state_after, waits_in}
 use Rattle.job_machine.specs.declared.state.Ended.TheVariants as ended
 use Rattle.job_machine.specs.declared.state.JobKind.{JobKind}
+use Rattle.job_machine.specs.declared.state.JobKind.TheVariants.{Build, Merge, Refresh}
 use Rattle.job_machine.specs.declared.state.JobState.{JobState}
 use Rattle.job_machine.specs.declared.state.JobState.TheVariants.{Pending, Running, Error, Stopped, Discarded, Finished}
-use Rattle.range_list.specs.Ranges.{Interval, IsApart}
-use Rattle.std.specs.List.{insert}
+use Rattle.range_list.specs.Ranges.{Interval}
+use Rattle.std.specs.List.{flat_map}
 use Rattle.std.proofs.lemmas.Bool.{eq-eqb}
-use Rattle.run_history.specs.Cubes.{Rows}
+use Rattle.run_history.specs.Cubes.{Rows, Snapshot}
 use Rattle.run_history.specs.Steps.{step_ended, with_job}
-use Rattle.run_history.specs.Invariants.{ranges_of}
-use Rattle.run_history.specs.Sets.{Segment, swapped}
+use Rattle.run_history.specs.Sets.{dropped, swapped}
 use Rattle.run_history.specs.declared.event.Outcome.{Outcome}
-use Rattle.run_history.specs.World.{Submitted, World, in_force, job_at, job_of}
-use Rattle.run_state.specs.Orders.{ChangesJob, ClaimsJob, EndsJob, IsQueued, is_claimable_at, is_current_at, is_last_at}
-use Rattle.run_state.specs.States.{IsStateOf, Place, entry_at, place_kept, place_of, rows_in_force, snapshot_of, submitted_of}
+use Rattle.run_history.specs.World.{Submitted, World, in_force, job_at, job_of, origin_of, parts_by}
+use Rattle.run_state.specs.Numbered.{NumberedSet, after_drop, after_swap, segment_of}
+use Rattle.run_state.specs.Orders.{ChangesJob, ClaimsJob, EndsJob, MovesJob, IsQueued, is_claimable_at, is_current_at, is_last_at}
+use Rattle.run_state.specs.States.{IsStateOf, entry_at, rows_in_force, snapshot_of, submitted_of}
 use Rattle.run_state.specs.declared.parts.JobEntry.{JobEntry}
-use Rattle.run_state.specs.declared.parts.ReadySegment.{ReadySegment}
 use Rattle.run_state.specs.declared.parts.RunState.{RunState}
 use Rattle.run_state.proofs.Entries.{entry_place}
 use Rattle.run_state.proofs.Ends.{absent_world, stale_world}
 use Rattle.run_state.proofs.Lists.{map_set_same, some_eq}
-use Rattle.run_state.proofs.Refusals.{ready_count, ready_ranges}
-use Rattle.run_state.proofs.Swaps.{map_insert, swapped_is}
 
 -- a state of a world is one of the same world
-pub same_world : {T P S Q : Type 0} (rows : T → Rows) (v u : World Q) (s : RunState T P S Q) → v ≡ u → IsStateOf rows u s → IsStateOf rows v s
-same_world rows v u s e i = subst (λ (x : World _). IsStateOf rows x s) (sym e) i
+pub same_world : {T P R Q : Type 0} (rows : T → Rows) (ready_set : R → NumberedSet) (v u : World Q) (s : RunState T P R Q) → v ≡ u → IsStateOf rows ready_set u s → IsStateOf rows ready_set v s
+same_world rows ready_set v u s e i = subst (λ (x : World _). IsStateOf rows ready_set x s) (sym e) i
 
 -- ---- a job more
 
@@ -54,7 +52,7 @@ entry_past xs = entry_place xs (length xs + 1) (length xs) refl ∙ past xs
     past [] = refl
     past (x ∷ xs) = past xs
 
-module _ {T P S Q : Type 0} (s : RunState T P S Q) where
+module _ {T P R Q : Type 0} (s : RunState T P R Q) where
   -- the next number is in no queue
   pub next_absent : IsQueued s → has s.queue.items (length s.jobs.items + 1) ≡ false
   next_absent q = q (length s.jobs.items + 1) ∙ ap is_claimable_at (entry_past s.jobs.items)
@@ -134,24 +132,27 @@ module _ {T P : Type 0} (rows : T → Rows) (old new : List (JobEntry T P)) (pla
   pub claimed_products : (forced : List Rows) (ch : ClaimsJob rows old new place forced) → map (λ (e : JobEntry T P). e.products.items) new ≡ map (λ (e : JobEntry T P). e.products.items) old
   claimed_products forced ch = ap (map (λ (e : JobEntry T P). e.products.items)) ch.now ∙ map_set_same (λ (e : JobEntry T P). e.products.items) old place ch.entry ch.next ch.at ch.products
 
-  pub ended_jobs : (attempt : ℕ) (kept : List P → List P) (ch : EndsJob old new place attempt kept) (after : JobRecord) → after_end (ended_ok ch.entry.job attempt) ch.entry.job ≡ after
-      → map (submitted_of rows) new ≡ set (map (submitted_of rows) old) place (record (submitted_of rows ch.entry) { job = after })
-  ended_jobs attempt kept ch after h =
+  pub moved_jobs : (after : JobRecord → JobRecord) (kept : List P → List P) (ch : MovesJob old new place after kept) (job : JobRecord) → after ch.entry.job ≡ job
+      → map (submitted_of rows) new ≡ set (map (submitted_of rows) old) place (record (submitted_of rows ch.entry) { job = job })
+  moved_jobs after kept ch job h =
       ap (map (submitted_of rows)) ch.now ∙ (map-set (submitted_of rows) old place ch.next ∙ ap (set (map (submitted_of rows) old) place) same)
     where
-      same : submitted_of rows ch.next ≡ record (submitted_of rows ch.entry) { job = after }
+      same : submitted_of rows ch.next ≡ record (submitted_of rows ch.entry) { job = job }
       same = rw (ch.job ∙ h, ch.range, ch.tables) refl
 
-  pub ended_count : (attempt : ℕ) (kept : List P → List P) (ch : EndsJob old new place attempt kept) → length new ≡ length old
-  ended_count attempt kept ch = ap length ch.now ∙ length-set old place ch.next
+  pub moved_count : (after : JobRecord → JobRecord) (kept : List P → List P) (ch : MovesJob old new place after kept) → length new ≡ length old
+  moved_count after kept ch = ap length ch.now ∙ length-set old place ch.next
 
-  pub ended_products : (attempt : ℕ) (kept : List P → List P) (ch : EndsJob old new place attempt kept)
+  pub moved_products : (after : JobRecord → JobRecord) (kept : List P → List P) (ch : MovesJob old new place after kept)
       → map (λ (e : JobEntry T P). e.products.items) new ≡ set (map (λ (e : JobEntry T P). e.products.items) old) place (kept ch.entry.products.items)
-  ended_products attempt kept ch =
+  moved_products after kept ch =
       ap (map (λ (e : JobEntry T P). e.products.items)) ch.now ∙ (map-set (λ (e : JobEntry T P). e.products.items) old place ch.next ∙ ap (set (map (λ (e : JobEntry T P). e.products.items) old) place) ch.products)
 
+  pub moved_at : (after : JobRecord → JobRecord) (kept : List P → List P) (ch : MovesJob old new place after kept) → slice_get (map (λ (e : JobEntry T P). e.products.items) old) place ≡ Some ch.entry.products.items
+  moved_at after kept ch = slice_get-map (λ (e : JobEntry T P). e.products.items) old place ∙ ap (option_map (λ (e : JobEntry T P). e.products.items)) ch.at
+
   pub ended_read : (attempt : ℕ) (kept : List P → List P) (ch : EndsJob old new place attempt kept) → unwrap_or (slice_get (map (λ (e : JobEntry T P). e.products.items) old) place) [] ≡ ch.entry.products.items
-  ended_read attempt kept ch = ap (λ (o : Option (List P)). unwrap_or o []) (slice_get-map (λ (e : JobEntry T P). e.products.items) old place ∙ ap (option_map (λ (e : JobEntry T P). e.products.items)) ch.at)
+  ended_read attempt kept ch = ap (λ (o : Option (List P)). unwrap_or o []) (moved_at (λ job. after_end (ended_ok job attempt) job) kept ch)
 
 -- what a step's end is where its attempt counts
 pub failed_job : (job : JobRecord) (attempt : ℕ) → is_current job attempt ≡ true → after_end (ended_failed job attempt) job ≡ next Act.Fail job
@@ -177,7 +178,7 @@ job_by_entry rows entries (suc place) = slice_get-map (submitted_of rows) entrie
 place_back : (number : ℕ) → 0 < number → number - 1 + 1 ≡ number
 place_back number h = omega arith
 
-module _ {T P S Q : Type 0} (rows : T → Rows) (w : World Q) (s : RunState T P S Q) (i : IsStateOf rows w s) (number : ℕ) where
+module _ {T P R Q : Type 0} (rows : T → Rows) (ready_set : R → NumberedSet) (w : World Q) (s : RunState T P R Q) (i : IsStateOf rows ready_set w s) (number : ℕ) where
   pub job_of_entry : (entry : JobEntry T P) → 0 < number → slice_get s.jobs.items (number - 1) ≡ Some entry → job_of w number ≡ Some (submitted_of rows entry)
   job_of_entry entry pos there =
       ap (λ (jobs : List Submitted). job_at jobs number) i.jobs ∙ (job_by_entry rows s.jobs.items number ∙ ap (option_map (submitted_of rows)) (entry_place s.jobs.items number (number - 1) (place_back number pos) ∙ there))
@@ -209,14 +210,14 @@ module _ {T P S Q : Type 0} (rows : T → Rows) (w : World Q) (s : RunState T P 
   pub ended_kept : (new : List (JobEntry T P)) (attempt : ℕ) (kept : List P → List P) (after : JobRecord) (ch : EndsJob s.jobs.items new (number - 1) attempt kept) → after_end (ended_ok ch.entry.job attempt) ch.entry.job ≡ after
       → with_job w.jobs number (record (submitted_of rows ch.entry) { job = after }) ≡ map (submitted_of rows) new
   ended_kept new attempt kept after ch h =
-      ap (λ (jobs : List Submitted). with_job jobs number (record (submitted_of rows ch.entry) { job = after })) i.jobs ∙ sym (ended_jobs rows s.jobs.items new (number - 1) attempt kept ch after h)
+      ap (λ (jobs : List Submitted). with_job jobs number (record (submitted_of rows ch.entry) { job = after })) i.jobs ∙ sym (moved_jobs rows s.jobs.items new (number - 1) (λ job. after_end (ended_ok job attempt) job) kept ch after h)
 
 -- the first of the queue
 pub has_first : (items : List ℕ) (number : ℕ) → slice_get items 0 ≡ Some number → has items number ≡ true
 has_first [] number h = cc
 has_first (item ∷ items) number h = ap (λ (b : Bool). b || has items number) (eq-eqb item number (some_eq item number h))
 
-module _ {T P S Q : Type 0} (s : RunState T P S Q) where
+module _ {T P R Q : Type 0} (s : RunState T P R Q) where
   pub claimable_there : (number : ℕ) → IsQueued s → has s.queue.items number ≡ true → (entry : JobEntry T P) × (0 < number) × (slice_get s.jobs.items (number - 1) ≡ Some entry) × (is_claimable entry.job ≡ true)
   claimable_there number q h = by_number number (sym (q number) ∙ h)
     where
@@ -233,26 +234,30 @@ module _ {T P S Q : Type 0} (s : RunState T P S Q) where
 
 -- ---- the ready set
 
-abbrev pub place_at : Interval → ℕ → Place
-place_at range job = record { range = range; job = job }
+-- claims are no part of what a segment is made of
+same_origin : {Query : Type 0} (w : World Query) (claims : List (ℕ × ℕ)) (s : Submitted) → origin_of (record w { steps = claims }) s ≡ origin_of w s
+same_origin w claims s = by_kind s.job.kind
+  where
+    by_kind : (kind : JobKind) → flat_map (λ (part : List Snapshot). part) (parts_by kind (record w { steps = claims }) s) ≡ flat_map (λ (part : List Snapshot). part) (parts_by kind w s)
+    by_kind Build = refl
+    by_kind Refresh = refl
+    by_kind Merge = refl
 
--- the next set is the set with the new segment at the place of its range
-pub finished_set : {T P S Q : Type 0} (rows : T → Rows) (w : World Q) (s : RunState T P S Q) (segment : ReadySegment S) (place : ℕ) (ranges : List Interval) (made : Segment)
-    → IsStateOf rows w s → s.ranges ≡ map (λ (x : ReadySegment S). x.range) s.segments.items → place_of made ≡ place_kept segment → place ≤ length s.segments.items
-    → ranges ≡ insert s.ranges place segment.range → IsApart ranges → swapped made w.ready ≡ insert w.ready place made
-finished_set rows w s segment place ranges made i o h le e apart =
-    let range : made.range ≡ segment.range = ap (λ (p : Place). p.range) h in
-    let within : place ≤ length w.ready = omega (arith, ready_count rows w s i) in
-    let stays : IsApart (insert (ranges_of w.ready) place made.range) =
-    subst IsApart (e ∙ (ap (λ (l : List Interval). insert l place segment.range) (o ∙ sym (ready_ranges rows w s i)) ∙ ap (λ (r : Interval). insert (ranges_of w.ready) place r) (sym range))) apart in
-    swapped_is w.ready place made within stays
+module _ {T P R Q : Type 0} (rows : T → Rows) (ready_set : R → NumberedSet) (w : World Q) (s : RunState T P R Q) (i : IsStateOf rows ready_set w s) (next : NumberedSet) where
+  -- the next set is the one that the end of a last step makes
+  module _ (claims : List (ℕ × ℕ)) (job : ℕ) (x : Submitted) (e : next ≡ after_swap (segment_of w job x) (ready_set s.ready)) where
+    pub swapped_ready : swapped (segment_of (record w { steps = claims }) job x) w.ready ≡ next.segments
+    swapped_ready =
+        ap (λ (origin : List Snapshot). swapped (record { range = x.range; job = job; origin = origin }) w.ready) (same_origin w claims x)
+        ∙ (ap (swapped (segment_of w job x)) i.ready ∙ sym (ap (λ (set : NumberedSet). set.segments) e))
 
-pub finished_ready : {T P S Q : Type 0} (rows : T → Rows) (w : World Q) (s : RunState T P S Q) (segment : ReadySegment S) (place : ℕ) (ranges : List Interval) (new : List (ReadySegment S)) (made : Segment)
-    → IsStateOf rows w s → s.ranges ≡ map (λ (x : ReadySegment S). x.range) s.segments.items → place_of made ≡ place_kept segment → place ≤ length s.segments.items
-    → ranges ≡ insert s.ranges place segment.range → IsApart ranges → new ≡ insert s.segments.items place segment → map place_of (swapped made w.ready) ≡ map place_kept new
-finished_ready rows w s segment place ranges new made i o h le e apart n =
-    ap (map place_of) (finished_set rows w s segment place ranges made i o h le e apart)
-    ∙ (map_insert place_of w.ready place made
-    ∙ (ap (λ (l : List Place). insert l place (place_of made)) i.ready
-    ∙ (ap (λ (p : Place). insert (map place_kept s.segments.items) place p) h
-    ∙ sym (ap (map place_kept) n ∙ map_insert place_kept s.segments.items place segment))))
+    pub swapped_version : length (w.past ++ w.ready ∷ []) ≡ next.version
+    swapped_version = length-append w.past (w.ready ∷ []) ∙ (ap (λ (n : ℕ). n + 1) i.version ∙ sym (ap (λ (set : NumberedSet). set.version) e))
+
+  -- or a drop
+  module _ (range : Interval) (e : next ≡ after_drop range (ready_set s.ready)) where
+    pub dropped_ready : dropped range w.ready ≡ next.segments
+    dropped_ready = ap (dropped range) i.ready ∙ sym (ap (λ (set : NumberedSet). set.segments) e)
+
+    pub dropped_version : length (w.past ++ w.ready ∷ []) ≡ next.version
+    dropped_version = length-append w.past (w.ready ∷ []) ∙ (ap (λ (n : ℕ). n + 1) i.version ∙ sym (ap (λ (set : NumberedSet). set.version) e))

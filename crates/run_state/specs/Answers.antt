@@ -1,5 +1,5 @@
 -- What commands are answered.
-use Rattle.std.specs.Prelude.{ℕ, ⊤, Bool, true, false, not, List, [], ◌∷◌, option_map, Option, Some, None, Result, Ok, Err}
+use Rattle.std.specs.Prelude.{ℕ, ◌-◌, slice_set, ⊤, Bool, true, false, not, List, [], ◌∷◌, option_map, Option, Some, None, Result, Ok, Err}
 use Rattle.job_machine.specs.Job.{JobRecord, attempt_in_flight, state_after}
 use Rattle.job_machine.specs.declared.state.JobState.{JobState}
 use Rattle.job_machine.specs.declared.state.JobRefusal.{JobRefusal}
@@ -52,6 +52,20 @@ without_stop (Err refusal) = Err refusal
 abbrev pub refusal_of : {A : Type 0} → Result A Refused → Option Refused
 refusal_of (Ok value) = None
 refusal_of (Err refused) = Some refused
+
+-- what is kept of a job's products after a command on it: none where it is discarded
+abbrev pub products_left : {P : Type 0} → Control → Option Refused → List P → List P
+products_left Discard None products = []
+products_left Discard (Some refused) products = products
+products_left Pause refusal products = products
+products_left Resume refusal products = products
+
+-- the products kept of each job after a command on the one of this number
+abbrev pub products_steered : {P : Type 0} → Control → Option Refused → ℕ → List (List P) → List (List P)
+products_steered Discard None number products = slice_set products (number - 1) []
+products_steered Discard (Some refused) number products = products
+products_steered Pause refusal number products = products
+products_steered Resume refusal number products = products
 
 -- an outcome that fails the step
 abbrev pub is_failure : Outcome → Bool

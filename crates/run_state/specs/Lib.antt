@@ -1,3 +1,5 @@
+pub mod Orderly
+pub mod Numbered
 pub mod States
 pub mod Orders
 pub mod Answers

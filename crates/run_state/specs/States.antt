@@ -2,13 +2,11 @@
 use Rattle.std.specs.Prelude.{◌≡◌, ◌==◌, ℕ, zero, suc, List, [], ◌∷◌, Vec, Option, None, map, option_map, unwrap_or, length, slice_get, if◌then◌else◌}
 use Rattle.std.specs.declared.alloc.Global.{Global}
 use Rattle.run_history.specs.Cubes.{Rows}
-use Rattle.run_history.specs.Sets.{Segment}
 use Rattle.run_history.specs.World.{Asked, Submitted, Waiting, World}
-use Rattle.range_list.specs.Ranges.{Interval}
+use Rattle.run_state.specs.Numbered.{NumberedSet}
 use Rattle.run_state.specs.declared.parts.Claim.{Claim}
 use Rattle.run_state.specs.declared.parts.JobEntry.{JobEntry}
 use Rattle.run_state.specs.declared.parts.QueryInFlight.{QueryInFlight}
-use Rattle.run_state.specs.declared.parts.ReadySegment.{ReadySegment}
 use Rattle.run_state.specs.declared.parts.RunState.{RunState}
 use Rattle.run_state.specs.declared.parts.Session.{Session}
 use Rattle.run_state.specs.declared.parts.WaitingQuery.{WaitingQuery}
@@ -30,17 +28,6 @@ abbrev pub entry_at : {X : Type 0} → List X → ℕ → Option X
 entry_at jobs zero = None
 entry_at jobs (suc place) = slice_get jobs place
 
--- a range and the job that made its segment
-pub record Place : Type 0 where
-  pub range : Interval
-  pub job : ℕ
-
-abbrev pub place_of : Segment → Place
-place_of segment = record { range = segment.range; job = segment.job }
-
-abbrev pub place_kept : {S : Type 0} → ReadySegment S → Place
-place_kept segment = record { range = segment.range; job = segment.job }
-
 abbrev pub claim_of : Claim → ℕ × ℕ
 claim_of claim = (claim.job, claim.attempt)
 
@@ -56,16 +43,17 @@ abbrev pub answered_in : List Session → ℕ → ℕ
 answered_in [] session = 0
 answered_in (s ∷ rest) session = if s.session == session then s.answered else answered_in rest session
 
--- what is kept is the world's, field by field; of ready segments their ranges and jobs, of queries in flight all but what they ask
-pub record IsStateOf {T P S Q : Type 0} (rows : T → Rows) (w : World Q) (s : RunState T P S Q) : Type 0 where
+-- what is kept is the world's, field by field: of jobs, loads and ready sets what their handles show, of queries in flight all but what they
+-- ask
+pub record IsStateOf {T P R Q : Type 0} (rows : T → Rows) (ready_set : R → NumberedSet) (w : World Q) (s : RunState T P R Q) : Type 0 where
   pub workers : w.workers ≡ s.workers
   pub line : w.line ≡ s.line
   pub loaded : w.loaded ≡ map (option_map rows) s.loaded.items
   pub jobs : w.jobs ≡ map (submitted_of rows) s.jobs.items
   pub queue : w.queue ≡ s.queue.items
   pub steps : w.steps ≡ map claim_of s.steps.items
-  pub version : length w.past ≡ s.version
-  pub ready : map place_of w.ready ≡ map place_kept s.segments.items
+  pub version : length w.past ≡ (ready_set s.ready).version
+  pub ready : w.ready ≡ (ready_set s.ready).segments
   pub waiting : w.waiting ≡ map waiting_of s.waiting.items
   pub asked : map in_flight_of w.asked ≡ s.asked.items
   pub accepted : w.accepted ≡ s.accepted

@@ -6,7 +6,7 @@ ghost use Rattle.run_history.specs.declared.command.Control.TheVariants.{Discard
 ghost use Rattle.run_history.specs.declared.refused.Refused.TheVariants.{JobEnded, NoSuchJob, WrongState};
 ghost use Rattle.run_state.specs.Answers.{steer_answer, steered_job};
 ghost use Rattle.run_state.specs.Examples.{second_attempt, two_sessions};
-ghost use Rattle.run_state.specs.Orders.{AreListed, AreRising, has_session};
+ghost use Rattle.run_state.specs.Orderly.{AreListed, AreRising, has_session};
 ghost use Rattle.run_state.specs.States.{answered_in, entry_at};
 
 /// Lines that rise, sessions and their last answers, jobs by their numbers, and what commands on jobs are answered.

@@ -1,8 +1,11 @@
 // What a run keeps.
 
+ghost use Rattle.std.specs.Prelude.{◌<◌, length, map};
+ghost use Rattle.run_state.specs.Orderly.{AreListed, AreListed-prop, AreRising, AreRising-prop};
+
 use job_list::JobList;
 use job_machine::{Job, JobState};
-use range_list::{Range, RangeList};
+use range_list::Range;
 
 /// A job with what was kept of it.
 #[derive(Drop)]
@@ -13,14 +16,6 @@ pub struct JobEntry<T, P> {
     pub tables: Option<Vec<Option<T>>>,
     /// The products of the steps done, in their order, until the last step is done.
     pub products: Vec<P>,
-}
-
-/// A ready segment: its range, the job that made it, and its data.
-#[derive(Drop)]
-pub struct ReadySegment<S> {
-    pub range: Range,
-    pub job: u32,
-    pub data: S,
 }
 
 /// A claim without its end.
@@ -64,9 +59,10 @@ pub struct Controlled {
     pub stop: Option<u32>,
 }
 
-/// The state of a run.
+/// The state of a run. Beside the world the queue has a place for every job, waiting queries rise by their lines up to that of the last
+/// command, and the sessions of queries are listed.
 #[derive(Drop)]
-pub struct RunState<T, P, S, Q> {
+pub struct RunState<T, P, R, Q> {
     /// How many pieces of work may be in flight.
     pub workers: u32,
     /// The line of the last command.
@@ -79,12 +75,8 @@ pub struct RunState<T, P, S, Q> {
     pub queue: JobList,
     /// The claims without their end.
     pub steps: Vec<Claim>,
-    /// The ready segments, in rising order of their ranges.
-    pub segments: Vec<ReadySegment<S>>,
-    /// Their ranges.
-    pub ranges: RangeList,
-    /// The version of the ready set.
-    pub version: u32,
+    /// The ready set.
+    pub ready: R,
     /// The queries that wait, by rising lines.
     pub waiting: Vec<WaitingQuery<Q>>,
     /// The queries in flight.
@@ -93,4 +85,8 @@ pub struct RunState<T, P, S, Q> {
     pub sessions: Vec<Session>,
     /// How many queries were accepted.
     pub accepted: u32,
+    ghost places: { length jobs.items < queue.capacity },
+    ghost rising: { AreRising 0 line (map (λ q. q.line) waiting.items) } by { AreRising-prop 0 line (map (λ q. q.line) waiting.items) },
+    ghost waiting_listed: { AreListed sessions.items (map (λ q. q.session) waiting.items) } by { AreListed-prop sessions.items (map (λ q. q.session) waiting.items) },
+    ghost asked_listed: { AreListed sessions.items (map (λ q. q.session) asked.items) } by { AreListed-prop sessions.items (map (λ q. q.session) asked.items) },
 }

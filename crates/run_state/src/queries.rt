@@ -7,11 +7,13 @@ ghost use Rattle.run_history.specs.Histories.{IsNextOfSession};
 ghost use Rattle.run_history.specs.Steps.{accepted, answered_as, query_ended, query_taken};
 ghost use Rattle.run_history.specs.World.{World};
 ghost use Rattle.run_state.specs.States.{IsStateOf, answered_in};
-ghost use Rattle.run_state.specs.Orders.{AreListed, IsOrderly, KeepsData, has_session, is_asking};
+ghost use Rattle.run_state.specs.Orderly.{AreListed, has_session};
+ghost use Rattle.run_state.specs.Orders.{KeepsData, is_asking};
 ghost use Rattle.run_state.specs.declared.parts.WaitingQuery.{WaitingQuery};
 ghost use Rattle.run_state.specs.declared.parts.QueryInFlight.{QueryInFlight};
 
 use crate::parts::{QueryInFlight, RunState, Session, WaitingQuery};
+use crate::ready::ReadyHandle;
 use crate::room::put;
 use crate::table::TableHandle;
 use run_history::QueryOut;
@@ -33,22 +35,20 @@ fn list_session(sessions: &mut Vec<Session>, session: u32) -> Result<(), AllocEr
 }
 
 /// Accepts a query of a session. Where no memory is found nothing is recorded.
-pub fn ask<T: TableHandle, P: Drop, S: Drop, Q: Drop>(
-    state: &mut RunState<T, P, S, Q>,
+pub fn ask<T: TableHandle, P: Drop, R: ReadyHandle, Q: Drop>(
+    state: &mut RunState<T, P, R, Q>,
     line: u32,
     session: u32,
     query: Q,
 ) -> Result<(), AllocError>
-    requires orderly { IsOrderly state.old }
     requires above { state.old.line < line }
     requires few { state.old.accepted + 1 < 2 ^ 32 }
-    ensures state { OnOk result ((w : World Q) → IsStateOf T.rows w state.old → IsStateOf T.rows (accepted 0 (record w { line = line }) (Ask session query)) state.new) }
-    ensures orderly { IsOrderly state.new }
+    ensures state { OnOk result ((w : World Q) → IsStateOf T.rows R.ready_set w state.old → IsStateOf T.rows R.ready_set (accepted 0 (record w { line = line }) (Ask session query)) state.new) }
     ensures kept { KeepsData state.old state.new }
-    ensures err { OnErr result ((w : World Q) → IsStateOf T.rows w state.old → IsStateOf T.rows w state.new) }
+    ensures err { OnErr result ((w : World Q) → IsStateOf T.rows R.ready_set w state.old → IsStateOf T.rows R.ready_set w state.new) }
 {
     list_session(&mut state.sessions, session)?;
-    let at_command = state.version;
+    let at_command = state.ready.version();
     state.waiting.push(WaitingQuery {
         line,
         session,
@@ -75,32 +75,29 @@ fn first_free<Q>(waiting: &[WaitingQuery<Q>], asked: &[QueryInFlight]) -> Option
 }
 
 /// The place of the first waiting query of whose session none is in flight; `None` exactly where there is no such query.
-pub fn next_query<T: TableHandle, P: Drop, S: Drop, Q: Drop>(
-    state: &RunState<T, P, S, Q>,
+pub fn next_query<T: TableHandle, P: Drop, R: ReadyHandle, Q: Drop>(
+    state: &RunState<T, P, R, Q>,
 ) -> Option<usize>
-    requires { IsOrderly state.now }
     ensures place { result ≡ position (λ q. not (is_asking state.now.asked.items q.session)) state.now.waiting.items }
-    ensures next { IfSome result (λ place. (q : WaitingQuery Q) → slice_get state.now.waiting.items place ≡ Some q → (w : World Q) → IsStateOf T.rows w state.now → IsNextOfSession w (find (λ other. other.line == q.line) w.waiting)) }
+    ensures next { IfSome result (λ place. (q : WaitingQuery Q) → slice_get state.now.waiting.items place ≡ Some q → (w : World Q) → IsStateOf T.rows R.ready_set w state.now → IsNextOfSession w (find (λ other. other.line == q.line) w.waiting)) }
 {
     first_free(&state.waiting, &state.asked)
 }
 
 /// Takes the query at a place. Where no memory is found nothing is recorded.
-pub fn take_query<T: TableHandle, P: Drop, S: Drop, Q: Drop>(
-    state: &mut RunState<T, P, S, Q>,
+pub fn take_query<T: TableHandle, P: Drop, R: ReadyHandle, Q: Drop>(
+    state: &mut RunState<T, P, R, Q>,
     place: usize,
 ) -> Result<WaitingQuery<Q>, AllocError>
-    requires orderly { IsOrderly state.old }
-    requires there { place < length state.old.waiting.items }
+    requires { place < length state.old.waiting.items }
     ensures query { IfOk result (λ q. slice_get state.old.waiting.items place ≡ Some q) }
-    ensures state { IfOk result (λ q. (w : World Q) → IsStateOf T.rows w state.old → IsStateOf T.rows (query_taken w q.line (find (λ other. other.line == q.line) w.waiting)) state.new) }
-    ensures orderly { IsOrderly state.new }
+    ensures state { IfOk result (λ q. (w : World Q) → IsStateOf T.rows R.ready_set w state.old → IsStateOf T.rows R.ready_set (query_taken w q.line (find (λ other. other.line == q.line) w.waiting)) state.new) }
     ensures kept { KeepsData state.old state.new }
-    ensures err { OnErr result ((w : World Q) → IsStateOf T.rows w state.old → IsStateOf T.rows w state.new) }
+    ensures err { OnErr result ((w : World Q) → IsStateOf T.rows R.ready_set w state.old → IsStateOf T.rows R.ready_set w state.new) }
 {
     state.asked.reserve(1)?;
     let query = state.waiting.remove(place);
-    let at_take = state.version;
+    let at_take = state.ready.version();
     let flight = QueryInFlight {
         line: query.line,
         session: query.session,
@@ -162,15 +159,13 @@ fn note_answer(sessions: &mut Vec<Session>, asked: &[QueryInFlight], line: u32, 
 }
 
 /// The query of this line has its end. It takes no memory.
-pub fn end_query<T: TableHandle, P: Drop, S: Drop, Q: Drop>(
-    state: &mut RunState<T, P, S, Q>,
+pub fn end_query<T: TableHandle, P: Drop, R: ReadyHandle, Q: Drop>(
+    state: &mut RunState<T, P, R, Q>,
     line: u32,
     out: QueryOut,
 )
-    requires orderly { IsOrderly state.old }
-    requires in_flight { list_any (λ q. q.line == line) state.old.asked.items ≡ true }
-    ensures state { (w : World Q) → IsStateOf T.rows w state.old → IsStateOf T.rows (query_ended w line out (find (λ q. q.waiting.line == line) w.asked)) state.new }
-    ensures orderly { IsOrderly state.new }
+    requires { list_any (λ q. q.line == line) state.old.asked.items ≡ true }
+    ensures state { (w : World Q) → IsStateOf T.rows R.ready_set w state.old → IsStateOf T.rows R.ready_set (query_ended w line out (find (λ q. q.waiting.line == line) w.asked)) state.new }
     ensures kept { KeepsData state.old state.new }
 {
     note_answer(&mut state.sessions, &state.asked, line, out);

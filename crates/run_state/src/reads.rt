@@ -9,6 +9,7 @@ ghost use Rattle.run_state.specs.States.{IsStateOf, entry_at};
 ghost use Rattle.run_state.specs.Orders.{is_current_at, is_last_at, is_under_way_at};
 
 use crate::parts::{JobEntry, RunState};
+use crate::ready::ReadyHandle;
 use crate::table::TableHandle;
 use job_machine::{Job, JobState};
 use run_history::Noted;
@@ -88,11 +89,11 @@ fn any_under_way<T, P>(jobs: &[JobEntry<T, P>]) -> bool
 }
 
 /// Whether what a command waits for is there.
-pub fn may_note<T: TableHandle, P: Drop, S: Drop, Q: Drop>(
-    state: &RunState<T, P, S, Q>,
+pub fn may_note<T: TableHandle, P: Drop, R: ReadyHandle, Q: Drop>(
+    state: &RunState<T, P, R, Q>,
     noted: &Noted,
 ) -> bool
-    ensures { (w : World Q) → IsStateOf T.rows w state.now → (result ≡ true) ↔ MayNote w noted.now }
+    ensures { (w : World Q) → IsStateOf T.rows R.ready_set w state.now → (result ≡ true) ↔ MayNote w noted.now }
 {
     match noted {
         Noted::AwaitJob(job) => rests(&state.jobs, *job),
@@ -103,8 +104,10 @@ pub fn may_note<T: TableHandle, P: Drop, S: Drop, Q: Drop>(
 }
 
 /// Whether the queue is empty, nothing is in flight, and no query waits.
-pub fn is_settled<T: TableHandle, P: Drop, S: Drop, Q: Drop>(state: &RunState<T, P, S, Q>) -> bool
-    ensures { (w : World Q) → IsStateOf T.rows w state.now → result ≡ is_settled w }
+pub fn is_settled<T: TableHandle, P: Drop, R: ReadyHandle, Q: Drop>(
+    state: &RunState<T, P, R, Q>,
+) -> bool
+    ensures { (w : World Q) → IsStateOf T.rows R.ready_set w state.now → result ≡ is_settled w }
 {
     if !state.queue.is_empty() {
         return false;

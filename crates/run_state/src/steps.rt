@@ -1,21 +1,21 @@
 // Claims, and the ends of steps.
 
-ghost use Rattle.std.specs.Prelude.{◌≡◌, ◌+◌, ◌-◌, ◌<◌, ◌≤◌, ◌^◌, ℕ, true, false, [], ◌∷◌, ◌++◌, Some, IfOk, OnOk, OnErr, All, map, option_map, length, slice_get, slice_set, unwrap_or, IfSome, insert, ◌==◌, ◌&&◌, position};
+ghost use Rattle.std.specs.Prelude.{◌≡◌, ◌+◌, ◌-◌, ◌<◌, ◌^◌, ℕ, true, false, [], ◌∷◌, ◌++◌, Some, IfOk, OnOk, OnErr, All, map, option_map, length, slice_get, slice_set, unwrap_or, IfSome, ◌==◌, ◌&&◌, position};
 ghost use Rattle.job_machine.specs.Job.{after_end, ended_failed, is_claimable};
-ghost use Rattle.range_list.specs.Ranges.{IsApart, IsFree};
 ghost use Rattle.run_history.specs.Histories.{IsNextAttempt};
 ghost use Rattle.run_history.specs.Steps.{claimed, step_ended, without_claim};
-ghost use Rattle.run_history.specs.World.{Submitted, World, job_of, origin_of};
+ghost use Rattle.run_history.specs.World.{Submitted, World, job_of};
 ghost use Rattle.run_history.specs.declared.event.Outcome.{Outcome};
 ghost use Rattle.run_history.specs.declared.event.Outcome.TheVariants.{Done};
 ghost use Rattle.run_state.specs.Answers.{is_failure};
-ghost use Rattle.run_state.specs.Orders.{ChangesJob, ClaimsJob, EndsJob, SameJobs, IsOrderly, IsFreeFor, IsQueued, KeepsData, data_of, is_current_at, is_last_at, products_of};
+ghost use Rattle.run_state.specs.Numbered.{after_swap, segment_of};
+ghost use Rattle.run_state.specs.Orders.{ChangesJob, ClaimsJob, EndsJob, SameJobs, IsQueued, KeepsData, is_current_at, is_last_at, products_of};
 ghost use Rattle.run_state.specs.States.{IsStateOf, claim_of, entry_at, rows_in_force, snapshot_of};
 
-use crate::parts::{Claim, JobEntry, ReadySegment, RunState};
-use crate::room::{put, put_at};
+use crate::parts::{Claim, JobEntry, RunState};
+use crate::ready::ReadyHandle;
+use crate::room::put;
 use crate::table::TableHandle;
-use range_list::RangeList;
 use std::alloc::{AllocError, Global};
 
 // A copy of a handle, where there is one.
@@ -31,8 +31,11 @@ fn copy_of<T: TableHandle>(table: &Option<T>) -> Result<Option<T>, AllocError>
     }
 }
 
-// Copies of the handles.
-fn copies<T: TableHandle>(alloc: Global, tables: &[Option<T>]) -> Result<Vec<Option<T>>, AllocError>
+/// Other handles of the same tables.
+pub fn copied_tables<T: TableHandle>(
+    alloc: Global,
+    tables: &[Option<T>],
+) -> Result<Vec<Option<T>>, AllocError>
     ensures { IfOk result (λ copied. map (option_map T.rows) copied.items ≡ map (option_map T.rows) tables.now) }
 {
     let mut copied = Vec::new(alloc);
@@ -53,7 +56,7 @@ fn first_tables<T: TableHandle>(
     ensures err { OnErr result (tables.new ≡ tables.old) }
 {
     if tables.is_none() {
-        let snapshot = copies(alloc, loaded)?;
+        let snapshot = copied_tables(alloc, loaded)?;
         *tables = Some(snapshot);
     }
     Ok(())
@@ -80,20 +83,18 @@ fn claim_at<T: TableHandle, P>(
 }
 
 /// Claims the first job of the queue, and answers the attempt. Where no memory is found nothing is recorded.
-pub fn claim<T: TableHandle, P: Drop, S: Drop, Q: Drop>(
-    state: &mut RunState<T, P, S, Q>,
+pub fn claim<T: TableHandle, P: Drop, R: ReadyHandle, Q: Drop>(
+    state: &mut RunState<T, P, R, Q>,
     alloc: Global,
     job: u32,
 ) -> Result<u32, AllocError>
-    requires orderly { IsOrderly state.old }
     requires queued { IsQueued state.old }
     requires first { slice_get state.old.queue.items 0 ≡ Some job }
     requires attempts { All (λ entry. entry.job.attempt + 1 < 2 ^ 32) state.old.jobs.items }
-    ensures attempt { IfOk result (λ attempt. (w : World Q) → IsStateOf T.rows w state.old → IsNextAttempt (job_of w job) attempt) }
-    ensures state { IfOk result (λ attempt. (w : World Q) → IsStateOf T.rows w state.old → IsStateOf T.rows (claimed w job attempt (job_of w job)) state.new) }
-    ensures orderly { IsOrderly state.new }
+    ensures attempt { IfOk result (λ attempt. (w : World Q) → IsStateOf T.rows R.ready_set w state.old → IsNextAttempt (job_of w job) attempt) }
+    ensures state { IfOk result (λ attempt. (w : World Q) → IsStateOf T.rows R.ready_set w state.old → IsStateOf T.rows R.ready_set (claimed w job attempt (job_of w job)) state.new) }
     ensures kept { KeepsData state.old state.new }
-    ensures err { OnErr result ((w : World Q) → IsStateOf T.rows w state.old → IsStateOf T.rows w state.new) }
+    ensures err { OnErr result ((w : World Q) → IsStateOf T.rows R.ready_set w state.old → IsStateOf T.rows R.ready_set w state.new) }
 {
     state.steps.reserve(1)?;
     let place = job as usize - 1;
@@ -122,15 +123,13 @@ fn remove_claim(steps: &mut Vec<Claim>, job: u32, attempt: u32)
 }
 
 /// The end of an attempt that doesn't count. It takes no memory.
-pub fn end_stale<T: TableHandle, P: Drop, S: Drop, Q: Drop>(
-    state: &mut RunState<T, P, S, Q>,
+pub fn end_stale<T: TableHandle, P: Drop, R: ReadyHandle, Q: Drop>(
+    state: &mut RunState<T, P, R, Q>,
     job: u32,
     attempt: u32,
 )
-    requires orderly { IsOrderly state.old }
-    requires stale { is_current_at (entry_at state.old.jobs.items job) attempt ≡ false }
-    ensures state { (w : World Q) (outcome : Outcome) → IsStateOf T.rows w state.old → IsStateOf T.rows (step_ended (record w { steps = without_claim job attempt w.steps }) job attempt outcome (job_of w job)) state.new }
-    ensures orderly { IsOrderly state.new }
+    requires { is_current_at (entry_at state.old.jobs.items job) attempt ≡ false }
+    ensures state { (w : World Q) (outcome : Outcome) → IsStateOf T.rows R.ready_set w state.old → IsStateOf T.rows R.ready_set (step_ended (record w { steps = without_claim job attempt w.steps }) job attempt outcome (job_of w job)) state.new }
     ensures kept { KeepsData state.old state.new }
 {
     remove_claim(&mut state.steps, job, attempt);
@@ -145,15 +144,13 @@ fn fail_at<T, P>(jobs: &mut Vec<JobEntry<T, P>>, place: usize, attempt: u32)
 }
 
 /// The end of an attempt that counts and fails. It takes no memory.
-pub fn end_failed<T: TableHandle, P: Drop, S: Drop, Q: Drop>(
-    state: &mut RunState<T, P, S, Q>,
+pub fn end_failed<T: TableHandle, P: Drop, R: ReadyHandle, Q: Drop>(
+    state: &mut RunState<T, P, R, Q>,
     job: u32,
     attempt: u32,
 )
-    requires orderly { IsOrderly state.old }
-    requires current { is_current_at (entry_at state.old.jobs.items job) attempt ≡ true }
-    ensures state { (w : World Q) (outcome : Outcome) → is_failure outcome ≡ true → IsStateOf T.rows w state.old → IsStateOf T.rows (step_ended (record w { steps = without_claim job attempt w.steps }) job attempt outcome (job_of w job)) state.new }
-    ensures orderly { IsOrderly state.new }
+    requires { is_current_at (entry_at state.old.jobs.items job) attempt ≡ true }
+    ensures state { (w : World Q) (outcome : Outcome) → is_failure outcome ≡ true → IsStateOf T.rows R.ready_set w state.old → IsStateOf T.rows R.ready_set (step_ended (record w { steps = without_claim job attempt w.steps }) job attempt outcome (job_of w job)) state.new }
     ensures kept { KeepsData state.old state.new }
 {
     let place = job as usize - 1;
@@ -187,21 +184,19 @@ fn advance_at<T: Drop, P: Drop>(
 }
 
 /// The success of a step that isn't the last: its product is kept. Where no memory is found nothing is recorded.
-pub fn end_advanced<T: TableHandle, P: Drop, S: Drop, Q: Drop>(
-    state: &mut RunState<T, P, S, Q>,
+pub fn end_advanced<T: TableHandle, P: Drop, R: ReadyHandle, Q: Drop>(
+    state: &mut RunState<T, P, R, Q>,
     job: u32,
     attempt: u32,
     product: P,
 ) -> Result<(), AllocError>
-    requires orderly { IsOrderly state.old }
     requires queued { IsQueued state.old }
     requires current { is_current_at (entry_at state.old.jobs.items job) attempt ≡ true }
     requires more { is_last_at (entry_at state.old.jobs.items job) ≡ false }
-    ensures state { OnOk result ((w : World Q) → IsStateOf T.rows w state.old → IsStateOf T.rows (step_ended (record w { steps = without_claim job attempt w.steps }) job attempt Done (job_of w job)) state.new) }
+    ensures state { OnOk result ((w : World Q) → IsStateOf T.rows R.ready_set w state.old → IsStateOf T.rows R.ready_set (step_ended (record w { steps = without_claim job attempt w.steps }) job attempt Done (job_of w job)) state.new) }
     ensures products { OnOk result (products_of state.new ≡ slice_set (products_of state.old) (job - 1) (unwrap_or (slice_get (products_of state.old) (job - 1)) [] ++ product ∷ [])) }
-    ensures segments { data_of state.new ≡ data_of state.old }
-    ensures orderly { IsOrderly state.new }
-    ensures err { OnErr result ((w : World Q) → IsStateOf T.rows w state.old → IsStateOf T.rows w state.new) }
+    ensures ready { state.new.ready ≡ state.old.ready }
+    ensures err { OnErr result ((w : World Q) → IsStateOf T.rows R.ready_set w state.old → IsStateOf T.rows R.ready_set w state.new) }
     ensures err_products { OnErr result (products_of state.new ≡ products_of state.old) }
 {
     let place = job as usize - 1;
@@ -221,57 +216,22 @@ fn finish_at<T, P: Drop>(jobs: &mut Vec<JobEntry<T, P>>, place: usize, attempt: 
     entry.job.step_ok(attempt);
 }
 
-// Puts a segment into its place.
-fn place_segment<S: Drop>(
-    segments: &mut Vec<ReadySegment<S>>,
-    ranges: &mut RangeList,
-    segment: ReadySegment<S>,
-) -> Result<usize, AllocError>
-    requires ranges { ranges.old ≡ map (λ segment. segment.range) segments.old.items }
-    requires free { IsFree ranges.old segment.range }
-    ensures ranges { ranges.new ≡ map (λ segment. segment.range) segments.new.items }
-    ensures place { IfOk result (λ place. segments.new.items ≡ insert segments.old.items place segment) }
-    ensures range { IfOk result (λ place. ranges.new ≡ insert ranges.old place segment.range) }
-    ensures within { IfOk result (λ place. place ≤ length segments.old.items) }
-    ensures apart { OnOk result (IsApart ranges.new) }
-    ensures err { OnErr result (segments.new.items ≡ segments.old.items) }
-{
-    segments.reserve(1)?;
-    let place = ranges.insert(segment.range)?;
-    put_at(segments, place, segment);
-    Ok(place)
-}
-
-/// The success of a last step: the segment comes, as the next ready set, and its place is answered. Where no memory is found nothing is
-/// recorded.
-pub fn end_finished<T: TableHandle, P: Drop, S: Drop, Q: Drop>(
-    state: &mut RunState<T, P, S, Q>,
+/// The success of a last step: the next ready set comes, with the job's segment in place of those inside its range. It takes no memory.
+pub fn end_finished<T: TableHandle, P: Drop, R: ReadyHandle, Q: Drop>(
+    state: &mut RunState<T, P, R, Q>,
     job: u32,
     attempt: u32,
-    sealed: S,
-) -> Result<usize, AllocError>
-    requires orderly { IsOrderly state.old }
+    next: R,
+)
     requires current { is_current_at (entry_at state.old.jobs.items job) attempt ≡ true }
     requires last { is_last_at (entry_at state.old.jobs.items job) ≡ true }
-    requires free { IsFreeFor state.old (entry_at state.old.jobs.items job) }
-    requires version { state.old.version + 1 < 2 ^ 32 }
-    ensures state { OnOk result ((w : World Q) → IsStateOf T.rows w state.old → IsStateOf T.rows (step_ended (record w { steps = without_claim job attempt w.steps }) job attempt Done (job_of w job)) state.new) }
-    ensures products { OnOk result (products_of state.new ≡ slice_set (products_of state.old) (job - 1) []) }
-    ensures segments { IfOk result (λ place. data_of state.new ≡ insert (data_of state.old) place sealed) }
-    ensures ready { IfOk result (λ place. (w : World Q) → IsStateOf T.rows w state.old → (s : Submitted) → job_of w job ≡ Some s → (step_ended (record w { steps = without_claim job attempt w.steps }) job attempt Done (job_of w job)).ready ≡ insert w.ready place (record { range = s.range; job = job; origin = origin_of w s })) }
-    ensures orderly { IsOrderly state.new }
-    ensures err { OnErr result ((w : World Q) → IsStateOf T.rows w state.old → IsStateOf T.rows w state.new) }
-    ensures err_kept { OnErr result (KeepsData state.old state.new) }
+    requires swapped { (w : World Q) → IsStateOf T.rows R.ready_set w state.old → (s : Submitted) → job_of w job ≡ Some s → R.ready_set next ≡ after_swap (segment_of w job s) (R.ready_set state.old.ready) }
+    ensures state { (w : World Q) → IsStateOf T.rows R.ready_set w state.old → IsStateOf T.rows R.ready_set (step_ended (record w { steps = without_claim job attempt w.steps }) job attempt Done (job_of w job)) state.new }
+    ensures products { products_of state.new ≡ slice_set (products_of state.old) (job - 1) [] }
+    ensures ready { state.new.ready ≡ next }
 {
-    let at = job as usize - 1;
-    let segment = ReadySegment {
-        range: state.jobs[at].range,
-        job,
-        data: sealed,
-    };
-    let place = place_segment(&mut state.segments, &mut state.ranges, segment)?;
-    finish_at(&mut state.jobs, at, attempt);
-    state.version += 1;
+    let place = job as usize - 1;
+    finish_at(&mut state.jobs, place, attempt);
+    state.ready = next;
     remove_claim(&mut state.steps, job, attempt);
-    Ok(place)
 }

@@ -1,20 +1,20 @@
 // What refuses submissions and drops.
 
-ghost use Rattle.std.specs.Prelude.{◌≡◌, ◌≤◌, ◌&&◌, ℕ, [], Some, None, IfOk, IfSome, count_by, find, length, map, not, option_map, position, is_none};
+ghost use Rattle.std.specs.Prelude.{◌≡◌, ◌+◌, ◌≤◌, ◌&&◌, ℕ, nat_le, [], Some, None, IfOk, IfSome, count_by, find, length, map, not, option_map, position, is_none};
 ghost use Rattle.std.specs.List.{list_any};
 ghost use Rattle.std.specs.Option.{option_or};
 ghost use Rattle.job_machine.specs.declared.state.JobKind.TheVariants.{Build, Merge, Refresh};
 ghost use Rattle.run_history.specs.Commands.Command.{Submit, Drop as DropRange};
 ghost use Rattle.run_history.specs.Invariants.{ranges_of};
 ghost use Rattle.run_history.specs.Sets.{ReadySet, is_overlap, is_same_range};
-ghost use Rattle.run_history.specs.Verdicts.{first_free_day, is_on_bounds, is_ready, refused_if, verdict};
+ghost use Rattle.run_history.specs.Verdicts.{most_segments, first_free_day, is_on_bounds, is_ready, refused_if, verdict};
 ghost use Rattle.run_history.specs.declared.refused.Refused.TheVariants.{NoSuchSegment, OneSegment, OverlapsJob};
 ghost use Rattle.run_history.specs.World.{World, is_build, is_live};
 ghost use Rattle.run_state.specs.Answers.{named, of_cover};
-ghost use Rattle.run_state.specs.Orders.{IsOrderly};
 ghost use Rattle.run_state.specs.States.{IsStateOf};
 
 use crate::parts::{JobEntry, RunState};
+use crate::ready::ReadyHandle;
 use crate::table::TableHandle;
 use cube_val::NameText;
 use job_machine::{Job, JobKind, JobState};
@@ -41,6 +41,19 @@ fn live_build(job: &Job) -> bool
         JobKind::Build => live(job.state),
         JobKind::Refresh | JobKind::Merge => false,
     }
+}
+
+// Whether there are as many ready segments and live BUILD jobs as there may be.
+fn is_full(segments: usize, builds: usize) -> bool
+    ensures { result ≡ nat_le most_segments (segments + builds) }
+{
+    if segments >= MOST_SEGMENTS {
+        return true;
+    }
+    if builds >= MOST_SEGMENTS - segments {
+        return true;
+    }
+    false
 }
 
 fn overlap(a: &Range, b: &Range) -> bool
@@ -93,23 +106,23 @@ fn overlapping_range(ranges: &RangeList, range: &Range) -> Option<Range>
 }
 
 /// The first refusal that applies to a BUILD of a range, where the tables have these names; `None` where it is accepted.
-pub fn build_refusal<T: TableHandle, P: Drop, S: Drop, Q: Drop>(
-    state: &RunState<T, P, S, Q>,
+pub fn build_refusal<T: TableHandle, P: Drop, R: ReadyHandle, Q: Drop>(
+    state: &RunState<T, P, R, Q>,
     names: &[NameText],
     range: &Range,
 ) -> Result<Option<Refused>, AllocError>
-    requires orderly { IsOrderly state.now }
-    requires names { length names.now ≡ length state.now.loaded.items }
-    ensures { IfOk result (λ refusal. (w : World Q) → IsStateOf T.rows w state.now → refusal ≡ verdict (named names.now) w (Submit Build range.now)) }
+    requires { length names.now ≡ length state.now.loaded.items }
+    ensures { IfOk result (λ refusal. (w : World Q) → IsStateOf T.rows R.ready_set w state.now → refusal ≡ verdict (named names.now) w (Submit Build range.now)) }
 {
     if let Some(table) = first_absent(&state.loaded) {
         let name = names[table].copy()?;
         return Ok(Some(Refused::NotLoaded(name)));
     }
-    if state.segments.len() + builds(&state.jobs) >= MOST_SEGMENTS {
+    let ranges = state.ready.ranges();
+    if is_full(ranges.len(), builds(&state.jobs)) {
         return Ok(Some(Refused::TooManySegments));
     }
-    if let Some(other) = overlapping_range(&state.ranges, range) {
+    if let Some(other) = overlapping_range(ranges, range) {
         return Ok(Some(Refused::OverlapsSegment(other)));
     }
     match overlapping_job(&state.jobs, range) {
@@ -183,47 +196,44 @@ fn cover_refusal(ranges: &RangeList, range: &Range) -> Option<Refused>
 }
 
 /// The first refusal that applies to a REFRESH of a range, where the tables have these names; `None` where it is accepted.
-pub fn refresh_refusal<T: TableHandle, P: Drop, S: Drop, Q: Drop>(
-    state: &RunState<T, P, S, Q>,
+pub fn refresh_refusal<T: TableHandle, P: Drop, R: ReadyHandle, Q: Drop>(
+    state: &RunState<T, P, R, Q>,
     names: &[NameText],
     range: &Range,
 ) -> Result<Option<Refused>, AllocError>
-    requires orderly { IsOrderly state.now }
-    requires names { length names.now ≡ length state.now.loaded.items }
-    ensures { IfOk result (λ refusal. (w : World Q) → IsStateOf T.rows w state.now → refusal ≡ verdict (named names.now) w (Submit Refresh range.now)) }
+    requires { length names.now ≡ length state.now.loaded.items }
+    ensures { IfOk result (λ refusal. (w : World Q) → IsStateOf T.rows R.ready_set w state.now → refusal ≡ verdict (named names.now) w (Submit Refresh range.now)) }
 {
     if let Some(table) = first_absent(&state.loaded) {
         let name = names[table].copy()?;
         return Ok(Some(Refused::NotLoaded(name)));
     }
-    let segment = missing(&state.ranges, range);
+    let segment = missing(state.ready.ranges(), range);
     let job = job_refusal(&state.jobs, range);
     Ok(or_refused(segment, job))
 }
 
 /// The first refusal that applies to a MERGE of a range, of those that need nothing of the cube: all but LookupsDiffer, which is the last
 /// and is asked of the cube where this is `None`.
-pub fn merge_refusal<T: TableHandle, P: Drop, S: Drop, Q: Drop>(
-    state: &RunState<T, P, S, Q>,
+pub fn merge_refusal<T: TableHandle, P: Drop, R: ReadyHandle, Q: Drop>(
+    state: &RunState<T, P, R, Q>,
     range: &Range,
 ) -> Option<Refused>
-    requires { IsOrderly state.now }
-    ensures { (w : World Q) → IsStateOf T.rows w state.now → result ≡ verdict (named []) w (Submit Merge range.now) }
+    ensures { (w : World Q) → IsStateOf T.rows R.ready_set w state.now → result ≡ verdict (named []) w (Submit Merge range.now) }
 {
-    let cover = cover_refusal(&state.ranges, range);
+    let cover = cover_refusal(state.ready.ranges(), range);
     let job = job_refusal(&state.jobs, range);
     or_refused(cover, job)
 }
 
 /// The first refusal that applies to a drop of a range; `None` where it is accepted.
-pub fn drop_refusal<T: TableHandle, P: Drop, S: Drop, Q: Drop>(
-    state: &RunState<T, P, S, Q>,
+pub fn drop_refusal<T: TableHandle, P: Drop, R: ReadyHandle, Q: Drop>(
+    state: &RunState<T, P, R, Q>,
     range: &Range,
 ) -> Option<Refused>
-    requires { IsOrderly state.now }
-    ensures { (w : World Q) → IsStateOf T.rows w state.now → result ≡ verdict (named []) w (DropRange range.now) }
+    ensures { (w : World Q) → IsStateOf T.rows R.ready_set w state.now → result ≡ verdict (named []) w (DropRange range.now) }
 {
-    let segment = missing(&state.ranges, range);
+    let segment = missing(state.ready.ranges(), range);
     let job = job_refusal(&state.jobs, range);
     or_refused(segment, job)
 }

@@ -6,13 +6,13 @@ use Rattle.std.proofs.lemmas.List.Sums.{fold-append}
 use Rattle.run_history.specs.Commands.{Turn}
 use Rattle.run_history.specs.Histories.{Along, Allowed}
 use Rattle.run_history.specs.Histories as histories
-use Rattle.run_history.specs.Invariants.{HasSteps}
+use Rattle.run_history.specs.Invariants.{HasSteps, IsStart}
 use Rattle.run_history.specs.Steps.{step, world}
 use Rattle.run_history.specs.World.{World, number, set_at, start}
 use Rattle.run_history.specs.declared.event.Event.{Event}
 use Rattle.run_history.proofs.Kept.{kept_turns}
 use Rattle.run_history.proofs.Laws.{Along-push, world-push}
-use Rattle.run_history.proofs.Sound.{empty_starts, sound_world}
+use Rattle.run_history.proofs.Sound.{sound_world}
 use Rattle.script_text.specs.declared.verb.Line.{Line}
 use Rattle.run_transcript.specs.Entries.{Entry, entries_after, entries_along, told_text}
 use Rattle.run_transcript.specs.Runs.{IsFresh, IsLegal, is_whole, line_of, lines_in, lines_taken, turn_of, turns_of, world_of}
@@ -37,7 +37,7 @@ module _ {Query : Type 0} (served : Served Query) where
 
   module _ (inputs : Inputs) where
     first : World Query
-    first = start inputs.workers (length served.cube.tables) []
+    first = start inputs.workers (length served.cube.tables) inputs.ready
 
     pub turns-push : (history : List Event) (event : Event) → turns_of served inputs (history ++ event ∷ []) ≡ turns_of served inputs history ++ turn_of served inputs event ∷ []
     turns-push history event = map-append (turn_of served inputs) history (event ∷ [])
@@ -45,14 +45,14 @@ module _ {Query : Type 0} (served : Served Query) where
     pub world-next : (history : List Event) (event : Event)
         → world_of served inputs (history ++ event ∷ []) ≡ step served.cube (world_of served inputs history) (turn_of served inputs event)
     world-next history event =
-        ap (world served.cube inputs.workers []) (turns-push history event) ∙ world-push served.cube inputs.workers [] (turns_of served inputs history) (turn_of served inputs event)
+        ap (world served.cube inputs.workers inputs.ready) (turns-push history event) ∙ world-push served.cube inputs.workers inputs.ready (turns_of served inputs history) (turn_of served inputs event)
 
     pub entries-next : (history : List Event) (event : Event)
         → entries_of served inputs (history ++ event ∷ [])
         ≡ entries_after served inputs.script (world_of served inputs history) (entries_of served inputs history) (turn_of served inputs event)
     entries-next history event =
-        ap (entries_along served inputs.script (start inputs.workers (length served.cube.tables) []) []) (turns-push history event)
-        ∙ entries_along-append inputs.script (start inputs.workers (length served.cube.tables) []) [] (turns_of served inputs history) (turn_of served inputs event ∷ [])
+        ap (entries_along served inputs.script (start inputs.workers (length served.cube.tables) inputs.ready) []) (turns-push history event)
+        ∙ entries_along-append inputs.script (start inputs.workers (length served.cube.tables) inputs.ready) [] (turns_of served inputs history) (turn_of served inputs event ∷ [])
 
     lines-push : (history : List Event) (event : Event) → lines_taken (history ++ event ∷ []) ≡ lines_taken history ++ line_of event
     lines-push history event = flat_map-append line_of history (event ∷ []) ∙ ap (λ (l : List ℕ). lines_taken history ++ l) (append-nil (line_of event))
@@ -64,21 +64,21 @@ module _ {Query : Type 0} (served : Served Query) where
       later = later;
       in_order = order ∙ (sym (append_assoc (lines_taken history) (line_of event) later) ∙ ap (λ (l : List ℕ). l ++ later) (sym (lines-push history event)));
       allowed =
-          subst (λ (ts : List (Turn Query)). histories.IsLegal served.cube inputs.workers [] ts) (sym (turns-push history event))
-          (Along-push served.cube Allowed (start inputs.workers (length served.cube.tables) []) (turns_of served inputs history) (turn_of served inputs event) legal.allowed allowed);
+          subst (λ (ts : List (Turn Query)). histories.IsLegal served.cube inputs.workers inputs.ready ts) (sym (turns-push history event))
+          (Along-push served.cube Allowed (start inputs.workers (length served.cube.tables) inputs.ready) (turns_of served inputs history) (turn_of served inputs event) legal.allowed allowed);
     }
 
     pub fresh-next : (history : List Event) (event : Event) → IsFresh served inputs history
         → histories.IsFresh (world_of served inputs history) (turn_of served inputs event) → IsFresh served inputs (history ++ event ∷ [])
     fresh-next history event fresh next =
-        subst (λ (ts : List (Turn Query)). histories.HasFreshAnswers served.cube inputs.workers [] ts) (sym (turns-push history event))
-        (Along-push served.cube histories.IsFresh (start inputs.workers (length served.cube.tables) []) (turns_of served inputs history) (turn_of served inputs event) fresh next)
+        subst (λ (ts : List (Turn Query)). histories.HasFreshAnswers served.cube inputs.workers inputs.ready ts) (sym (turns-push history event))
+        (Along-push served.cube histories.IsFresh (start inputs.workers (length served.cube.tables) inputs.ready) (turns_of served inputs history) (turn_of served inputs event) fresh next)
 
     pub told-front : (history later : List Event) → GoesOn (transcript served inputs (history ++ later)) (told_text (entries_of served inputs history))
     told-front history later =
         let turns = map-append (turn_of served inputs) history later in
-        let apart = ap (entries_along served inputs.script (start inputs.workers (length served.cube.tables) []) []) turns
-        ∙ entries_along-append inputs.script (start inputs.workers (length served.cube.tables) []) [] (turns_of served inputs history) (turns_of served inputs later) in
+        let apart = ap (entries_along served inputs.script (start inputs.workers (length served.cube.tables) inputs.ready) []) turns
+        ∙ entries_along-append inputs.script (start inputs.workers (length served.cube.tables) inputs.ready) [] (turns_of served inputs history) (turns_of served inputs later) in
         let more = told-along served inputs.script (world_of served inputs history) (entries_of served inputs history) (turns_of served inputs later) in
         let last = end_if served inputs (is_whole served inputs (history ++ later)) (world_of served inputs (history ++ later)) in (
           more.0 ++ last,
@@ -86,15 +86,15 @@ module _ {Query : Type 0} (served : Served Query) where
               ∙ append_assoc (told_text (entries_of served inputs history)) more.0 last,
         )
 
-    pub sets-stay : (history later : List Event) → HasSteps served.cube → IsLegal served inputs (history ++ later) → (version : ℕ)
+    pub sets-stay : (history later : List Event) → HasSteps served.cube → IsStart inputs.ready → IsLegal served inputs (history ++ later) → (version : ℕ)
         → version ≤ number (world_of served inputs history)
         → set_at (world_of served inputs (history ++ later)) version ≡ set_at (world_of served inputs history) version
-    sets-stay history later steps legal version within =
+    sets-stay history later steps initial legal version within =
         let turns = map-append (turn_of served inputs) history later in
-        let both = Along-first Allowed (start inputs.workers (length served.cube.tables) []) (turns_of served inputs history) (turns_of served inputs later)
-        (subst (λ (ts : List (Turn Query)). histories.IsLegal served.cube inputs.workers [] ts) turns legal.allowed) in
-        let sound = sound_world served.cube steps inputs.workers [] (turns_of served inputs history) empty_starts both.0 in
+        let both = Along-first Allowed (start inputs.workers (length served.cube.tables) inputs.ready) (turns_of served inputs history) (turns_of served inputs later)
+        (subst (λ (ts : List (Turn Query)). histories.IsLegal served.cube inputs.workers inputs.ready ts) turns legal.allowed) in
+        let sound = sound_world served.cube steps inputs.workers inputs.ready (turns_of served inputs history) initial both.0 in
         let kept = kept_turns served.cube steps (world_of served inputs history) (turns_of served inputs later) sound both.1 in
-        let after = ap (world served.cube inputs.workers []) turns
-        ∙ fold-append (step served.cube) (start inputs.workers (length served.cube.tables) []) (turns_of served inputs history) (turns_of served inputs later) in
+        let after = ap (world served.cube inputs.workers inputs.ready) turns
+        ∙ fold-append (step served.cube) (start inputs.workers (length served.cube.tables) inputs.ready) (turns_of served inputs history) (turns_of served inputs later) in
         ap (λ (w : World Query). set_at w version) after ∙ kept.sets version within

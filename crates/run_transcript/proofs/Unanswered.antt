@@ -252,7 +252,7 @@ module _ {Query : Type 0} (served : Served Query) (inputs : Inputs) where
   pub settled_told : (history : List Event) → is_settled (world_of served inputs history) ≡ true → AreTold (entries_of served inputs history)
   settled_told history s =
       all_told (world_of served inputs history) (entries_of served inputs history) s
-      (along_kept served inputs.script (start inputs.workers (length served.cube.tables) []) (turns_of served inputs history) [] tt)
+      (along_kept served inputs.script (start inputs.workers (length served.cube.tables) inputs.ready) (turns_of served inputs history) [] tt)
 
   length-ended : (w : World Query) (entries : List Entry) (line : ℕ) (out : QueryOut) (found : Option (Asked Query)) → length (query_ended served w entries line out found) ≡ length entries
   length-ended w entries line out None = refl
@@ -272,4 +272,4 @@ module _ {Query : Type 0} (served : Served Query) (inputs : Inputs) where
       omega (arith, rest, length-ended w entries line out (find (flies line) w.asked))
 
   pub count_entries : (history : List Event) → length (entries_of served inputs history) ≡ length (lines_taken history)
-  count_entries history = omega (arith, count_along (start inputs.workers (length served.cube.tables) []) [] history)
+  count_entries history = omega (arith, count_along (start inputs.workers (length served.cube.tables) inputs.ready) [] history)

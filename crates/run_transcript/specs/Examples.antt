@@ -88,6 +88,7 @@ at number said = record { number = number; verb = said }
 abbrev pub inputs : Inputs
 inputs = record {
   workers = 1;
+  ready = [];
   script =
       at 1 (verb.Descriptor (codes "fixed")) ∷ at 2 (verb.Load (codes "F") (codes "f.csv")) ∷ at 3 (verb.Build january) ∷ at 4 (verb.AwaitJob 1)
       ∷ at 5 (verb.Resume 1) ∷ at 6 (verb.AwaitJob 1) ∷ at 7 (verb.Query 0 (codes "select d1, count(*), sum(m) from f group by d1")) ∷ [];

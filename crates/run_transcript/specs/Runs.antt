@@ -41,17 +41,17 @@ module _ {Query : Type 0} (served : Served Query) (inputs : Inputs) where
   turns_of history = map turn_of history
 
   abbrev pub world_of : List Event → World Query
-  world_of history = world served.cube inputs.workers [] (turns_of history)
+  world_of history = world served.cube inputs.workers inputs.ready (turns_of history)
 
   -- the commands are the script's first ones, in order, and every turn may come
   pub record IsLegal (history : List Event) : Type 0 where
     pub later : List ℕ
     pub in_order : lines_in inputs.script ≡ lines_taken history ++ later
-    pub allowed : histories.IsLegal served.cube inputs.workers [] (turns_of history)
+    pub allowed : histories.IsLegal served.cube inputs.workers inputs.ready (turns_of history)
 
   -- every answer's version is no older than what its query and its session saw, and no newer than the last
   abbrev pub IsFresh : List Event → Type 0
-  IsFresh history = histories.HasFreshAnswers served.cube inputs.workers [] (turns_of history)
+  IsFresh history = histories.HasFreshAnswers served.cube inputs.workers inputs.ready (turns_of history)
 
   -- every command was taken, and nothing waits and nothing is in flight
   abbrev pub is_whole : List Event → Bool

@@ -6,6 +6,7 @@ use Rattle.job_machine.specs.declared.state.JobKind.TheVariants.{Build, Refresh,
 use Rattle.plain_answer.specs.declared.answer.AnswerTable.{AnswerTable}
 use Rattle.run_history.specs.Commands.{Command, Command as command}
 use Rattle.run_history.specs.Cubes.{CubeSemantics, Rows}
+use Rattle.run_history.specs.Sets.{ReadySet}
 use Rattle.run_history.specs.declared.command.Control.TheVariants.{Pause, Resume, Discard}
 use Rattle.run_history.specs.declared.command.Noted.TheVariants.{AwaitJob, AwaitJobs, AwaitQueries, Other}
 use Rattle.run_history.specs.declared.refused.Refused.{Refused}
@@ -23,9 +24,10 @@ pub record Served (Query : Type 0) : Type 0 where
   pub query_of : List ℕ → Result Query Refused
   pub no_table : List ℕ → Refused
 
--- what a run is given: the number of workers, the script, and the rows of the file of the load at a line
+-- what a run is given: the number of workers, the ready set that it starts with, the script, and the rows of the file of the load at a line
 pub record Inputs : Type 0 where
   pub workers : ℕ
+  pub ready : ReadySet
   pub script : List Line
   pub rows : ℕ → Rows
 

@@ -11,7 +11,7 @@ module _ {Query : Type 0} (served : Served Query) (inputs : Inputs) where
   -- the entries of a history
   abbrev pub entries_of : List Event → List Entry
   entries_of history =
-      entries_along served inputs.script (start inputs.workers (length served.cube.tables) []) [] (turns_of served inputs history)
+      entries_along served inputs.script (start inputs.workers (length served.cube.tables) inputs.ready) [] (turns_of served inputs history)
 
   -- the end line of a run that left this world
   abbrev pub end_of : World Query → List ℕ

@@ -5,7 +5,7 @@ ghost use Rattle.run_history.specs.Commands.{Command, Turn};
 ghost use Rattle.run_history.specs.Commands.Turn.{Claims, QueryEnds, QueryTakes, StepEnds, Takes};
 ghost use Rattle.run_history.specs.Histories as histories;
 ghost use Rattle.run_history.specs.Histories.{Allowed, is_settled};
-ghost use Rattle.run_history.specs.Invariants.{HasSteps};
+ghost use Rattle.run_history.specs.Invariants.{HasSteps, IsStart};
 ghost use Rattle.run_history.specs.Steps.{step};
 ghost use Rattle.run_history.specs.Verdicts.{verdict};
 ghost use Rattle.run_history.specs.World.{Asked, World, number, set_at};
@@ -88,9 +88,9 @@ pub fn whole_histories_tell_all<Query>()
         → is_settled (world_of served inputs history) ≡ true → AreTold (entries_of served inputs history) }
 {}
 
-/// The ready set of a version is the same in every later world, so an answer is over the set that its version names in the whole history.
+/// Where a run may start with its ready set, the ready set of a version is the same in every later world, so an answer is over the set that its version names in the whole history.
 pub fn answered_sets_stay<Query>()
-    ensures { (served : Served Query) (inputs : Inputs) (history later : List Event) → HasSteps served.cube → IsLegal served inputs (history ++ later)
+    ensures { (served : Served Query) (inputs : Inputs) (history later : List Event) → HasSteps served.cube → IsStart inputs.ready → IsLegal served inputs (history ++ later)
         → (version : ℕ) → version ≤ number (world_of served inputs history)
         → set_at (world_of served inputs (history ++ later)) version ≡ set_at (world_of served inputs history) version }
 {}

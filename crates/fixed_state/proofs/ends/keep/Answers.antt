@@ -1,11 +1,12 @@
-use Rattle.std.proofs.Common.{◌≡◌, ℕ, ◌+◌, ◌-◌, ◌++◌, ◌∷◌, Option, Some, Ok, List, [], set, refl, sym, ap, ◌∙◌, subst}
+use Rattle.std.proofs.Common.{ℕ, ◌-◌, ◌++◌, ◌∷◌, Some, Ok, List, [], set, refl, sym, ap, ◌∙◌}
 use Rattle.job_machine.specs.declared.state.Ended.{Ended}
 use Rattle.std.specs.Prelude.{is_some}
-use Rattle.run_state.specs.Orders.{data_of, is_last_at, products_of}
+use Rattle.run_state.specs.Orders.{is_last_at, products_of}
 use Rattle.run_state.specs.States.{entry_at}
 use Rattle.fixed_state.specs.Ends.{kept_of, products_after}
-use Rattle.fixed_state.specs.States.{FixedEntry}
-use Rattle.fixed_state.proofs.EndFacts.{advanced_now, ended_advanced, ended_finished, finished_now, free_now, kept_again, last_now, more_now, no_rows_now, on_ok, on_ok_both, queued_now, there_is, there_now}
+use Rattle.fixed_state.specs.Ready.{ReadyModel}
+use Rattle.fixed_state.specs.States.{FixedEntry, cells_of}
+use Rattle.fixed_state.proofs.EndFacts.{advanced_now, ended_advanced, finished_now, kept_again, last_now, more_now, no_rows_now, on_ok, on_ok_both, queued_now, there_is, there_now}
 use Rattle.fixed_state.proofs.ends.keep.Goals as goal
 
 pub end_advanced-requires-clause-queued : goal.end_advanced-requires-clause-queued
@@ -19,7 +20,7 @@ returns-then-not-is_last_step-clause-kept g c =
     let t = there_is c.args.state.now.jobs.items c.args.job c.args.attempt c.requires.current in
     let more = sym (c.is_last_step.ensures ∙ ap (λ (jobs : List FixedEntry). is_last_at (entry_at jobs c.args.job)) c.deref.ensures.value) ∙ c.if-not-is_last_step.true in
     on_ok c.end_advanced.result (λ products w i k product.
-    kept_again g.H.Honest.honest _ _ _ _ _ (products ∙ ap (λ (bytes : List ℕ). set (products_of c.args.state.now) (c.args.job - 1) (kept_of (products_of c.args.state.now) c.args.job ++ bytes ∷ [])) c.of.ensures) c.end_advanced.ensures.segments
+    kept_again g.H.Honest.honest _ _ _ _ _ (products ∙ ap (λ (bytes : List ℕ). set (products_of c.args.state.now) (c.args.job - 1) (kept_of (products_of c.args.state.now) c.args.job ++ bytes ∷ [])) c.of.ensures) (ap (λ (r : ReadyModel). r.cells) c.end_advanced.ensures.ready)
     (advanced_now g.H.Honest.honest c.args.state.now c.args.job c.args.attempt c.requires.fixed_state t w c.args.bytes i k product
     (more_now g.H.Honest.honest c.args.state.now c.args.job c.args.attempt c.requires.fixed_state t more) c.requires.bytes (λ snapshot. ap is_some (c.requires.product snapshot)))) c.end_advanced.ensures.products
 
@@ -37,9 +38,6 @@ returns-then-not-is_last_step-clause-products g c =
 pub keep_cells-requires-clause-last : goal.keep_cells-requires-clause-last
 keep_cells-requires-clause-last g c = sym (c.is_last_step.ensures ∙ ap (λ (jobs : List FixedEntry). is_last_at (entry_at jobs c.args.job)) c.deref.ensures.value) ∙ c.if-not-is_last_step.false
 
-pub keep_cells-requires-clause-free : goal.keep_cells-requires-clause-free
-keep_cells-requires-clause-free g c = free_now g.H.Honest.honest c.args.state.now c.args.job c.args.attempt c.requires.fixed_state (there_is c.args.state.now.jobs.items c.args.job c.args.attempt c.requires.current)
-
 pub unreachable-requires : goal.unreachable-requires
 unreachable-requires g c =
     let t = there_is c.args.state.now.jobs.items c.args.job c.args.attempt c.requires.current in
@@ -53,6 +51,6 @@ returns-clause-kept g c =
     let last = sym (c.is_last_step.ensures ∙ ap (λ (jobs : List FixedEntry). is_last_at (entry_at jobs c.args.job)) c.deref.ensures.value) ∙ c.if-not-is_last_step.false in
     on_ok_both c.keep_cells.result (λ products placed w i k product.
     kept_again g.H.Honest.honest _ _ _ _ _ products refl
-    (finished_now g.H.Honest.honest c.args.state.now c.args.job c.args.attempt c.requires.fixed_state t w c.args.bytes c.in-Cells.cells (data_of c.keep_cells.new.state) i k product
+    (finished_now g.H.Honest.honest c.args.state.now c.args.job c.args.attempt c.requires.fixed_state t w c.args.bytes c.in-Cells.cells (cells_of c.keep_cells.new.state) i k product
     (last_now g.H.Honest.honest c.args.state.now c.args.job c.args.attempt c.requires.fixed_state t last) (λ snapshot. c.requires.product snapshot ∙ ap Some c.in-Cells.is)
     (placed w i _ (there_now g.H.Honest.honest c.args.state.now c.args.job c.args.attempt c.requires.fixed_state t w i)))) c.keep_cells.ensures.products c.keep_cells.ensures.cells

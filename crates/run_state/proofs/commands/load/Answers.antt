@@ -21,5 +21,5 @@ returns-clause-state g c = λ w i. record {
   answered = i.answered;
 }
 
-pub returns-clause-orderly : goal.returns-clause-orderly
-returns-clause-orderly g c = record { ranges = c.requires.orderly.ranges; places = c.requires.orderly.places; lines = rising_more 0 _ _ _ c.requires.orderly.lines (omega arith); waiting_listed = c.requires.orderly.waiting_listed; asked_listed = c.requires.orderly.asked_listed }
+pub invariant_of-state : goal.invariant_of-state
+invariant_of-state g c = record { places = c.args.state.now.places; rising = rising_more 0 _ _ _ c.args.state.now.rising (omega arith); waiting_listed = c.args.state.now.waiting_listed; asked_listed = c.args.state.now.asked_listed }

@@ -38,8 +38,8 @@ returns-clause-products g c =
     ap (map (λ (e : JobEntry _ _). e.products.items)) c.in_ok-push.ensures.items
     ∙ (map-append (λ (e : JobEntry _ _). e.products.items) c.args.state.now.jobs.items _ ∙ ap (λ l. map (λ (e : JobEntry _ _). e.products.items) c.args.state.now.jobs.items ++ l ∷ []) c.new-2.ensures.items)
 
-pub returns-clause-orderly : goal.returns-clause-orderly
-returns-clause-orderly g c =
+pub invariant_of-state-2 : goal.invariant_of-state-2
+invariant_of-state-2 g c =
     let n : c.len.result ≡ length c.args.state.now.jobs.items = omega (arith, c.len.ensures, c.args.state.now.jobs.ok.0) in
     let more : length c.push.new.self.items ≡ length c.args.state.now.jobs.items + 1 = ap length c.in_ok-push.ensures.items ∙ length-append c.args.state.now.jobs.items _ in
-    record { ranges = c.requires.orderly.ranges; places = omega (arith, more, n, c.push_back.ensures.capacity, c.in_ok-reserve.ensures.reserved); lines = rising_more 0 _ _ _ c.requires.orderly.lines (omega arith); waiting_listed = c.requires.orderly.waiting_listed; asked_listed = c.requires.orderly.asked_listed }
+    record { places = omega (arith, more, n, c.push_back.ensures.capacity, c.in_ok-reserve.ensures.reserved); rising = rising_more 0 _ _ _ c.args.state.now.rising (omega arith); waiting_listed = c.args.state.now.waiting_listed; asked_listed = c.args.state.now.asked_listed }

@@ -1,6 +1,6 @@
 use Rattle.std.proofs.Common.{List, sym, ap, ◌∙◌, subst}
 use Rattle.run_state.specs.States.{answered_in}
-use Rattle.run_state.specs.Orders.{AreListed}
+use Rattle.run_state.specs.Orderly.{AreListed}
 use Rattle.run_state.specs.declared.parts.Session.{Session}
 use Rattle.run_state.proofs.Lists.{has_last, answered_more, listed_more}
 use Rattle.run_state.proofs.queries.list_session.Goals as goal

@@ -5,7 +5,7 @@ use Rattle.run_state.proofs.steps.end_stale.Goals as goal
 
 pub returns-clause-state : goal.returns-clause-state
 returns-clause-state g c = λ w outcome i.
-    same_world g.T.TableHandle.rows _ _ _ (stale_step g.T.TableHandle.rows w c.args.state.now i c.args.job (record w { steps = without_claim c.args.job c.args.attempt w.steps }) c.args.attempt outcome c.requires.stale) (record {
+    same_world g.T.TableHandle.rows g.R.ReadyHandle.ready_set _ _ _ (stale_step g.T.TableHandle.rows g.R.ReadyHandle.ready_set w c.args.state.now i c.args.job (record w { steps = without_claim c.args.job c.args.attempt w.steps }) c.args.attempt outcome c.requires) (record {
       workers = i.workers;
       line = i.line;
       loaded = i.loaded;

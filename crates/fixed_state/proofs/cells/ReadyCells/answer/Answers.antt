@@ -1,4 +1,4 @@
-use Rattle.std.proofs.Common.{◌≡◌, ap, ◌∙◌}
+use Rattle.std.proofs.Common.{ap, ◌∙◌}
 use Rattle.fixed_cube.specs.Answers.{by_first}
 use Rattle.plain_answer.specs.Answers.{plain_of}
 use Rattle.fixed_state.proofs.ReadyFacts.{row_lists, set_bases, set_numbers, set_rows}

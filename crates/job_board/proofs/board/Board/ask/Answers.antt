@@ -14,4 +14,4 @@ pub invariant_of-self-2 : goal.invariant_of-self-2
 invariant_of-self-2 g c =
     let e : c.in-Ok.query ≡ by_first = c.in-Ok.ensures in
     let stands = subst (λ (query : Query). StandsFor (accepted 0 (record (w g.H.Honest.honest c.self.inside.workers c.self.inside.room c.self.inside.names.items c.self.inside.state c.self.inside.log c.args.self.now c.self.view_is c.self.invariant) { line = c.args.line }) (Ask c.args.session query)) c.ask.new.state) e (c.in-Ok-ask.ensures.state (w g.H.Honest.honest c.self.inside.workers c.self.inside.room c.self.inside.names.items c.self.inside.state c.self.inside.log c.args.self.now c.self.view_is c.self.invariant) c.self.invariant.state) in
-    added_ask g.H.Honest.honest c.self.inside.workers c.self.inside.room c.self.inside.names.items c.self.inside.state c.self.inside.log c.args.self.now c.self.view_is c.self.invariant c.requires.room c.ask.new.state c.record_turn.new.log c.args.line c.args.session c.record_turn.ensures c.requires.above stands c.in-Ok-ask.ensures.orderly c.in-Ok-ask.ensures.kept
+    added_ask g.H.Honest.honest c.self.inside.workers c.self.inside.room c.self.inside.names.items c.self.inside.state c.self.inside.log c.args.self.now c.self.view_is c.self.invariant c.requires.room c.ask.new.state c.record_turn.new.log c.args.line c.args.session c.record_turn.ensures c.requires.above stands c.in-Ok-ask.ensures.kept

@@ -23,7 +23,7 @@ pub claim-requires-clause-attempts : goal.claim-requires-clause-attempts
 claim-requires-clause-attempts g c = attempts_small g.H.Honest.honest c.self.inside.workers c.self.inside.room c.self.inside.names.items c.self.inside.state c.self.inside.log c.args.self.now c.self.view_is c.self.invariant
 
 pub invariant_of-self-2 : goal.invariant_of-self-2
-invariant_of-self-2 g c = added_claim g.H.Honest.honest c.self.inside.workers c.self.inside.room c.self.inside.names.items c.self.inside.state c.self.inside.log c.args.self.now c.self.view_is c.self.invariant c.requires.room c.claim.new.state c.record_turn.new.log c.in-Some.job c.in-Ok-claim.attempt c.record_turn.ensures c.requires.worker (sym c.front.ensures ∙ c.in-Some.is) (c.in-Ok-claim.ensures.attempt (w g.H.Honest.honest c.self.inside.workers c.self.inside.room c.self.inside.names.items c.self.inside.state c.self.inside.log c.args.self.now c.self.view_is c.self.invariant) c.self.invariant.state) (c.in-Ok-claim.ensures.state (w g.H.Honest.honest c.self.inside.workers c.self.inside.room c.self.inside.names.items c.self.inside.state c.self.inside.log c.args.self.now c.self.view_is c.self.invariant) c.self.invariant.state) c.in-Ok-claim.ensures.orderly c.in-Ok-claim.ensures.kept
+invariant_of-self-2 g c = added_claim g.H.Honest.honest c.self.inside.workers c.self.inside.room c.self.inside.names.items c.self.inside.state c.self.inside.log c.args.self.now c.self.view_is c.self.invariant c.requires.room c.claim.new.state c.record_turn.new.log c.in-Some.job c.in-Ok-claim.attempt c.record_turn.ensures c.requires.worker (sym c.front.ensures ∙ c.in-Some.is) (c.in-Ok-claim.ensures.attempt (w g.H.Honest.honest c.self.inside.workers c.self.inside.room c.self.inside.names.items c.self.inside.state c.self.inside.log c.args.self.now c.self.view_is c.self.invariant) c.self.invariant.state) (c.in-Ok-claim.ensures.state (w g.H.Honest.honest c.self.inside.workers c.self.inside.room c.self.inside.names.items c.self.inside.state c.self.inside.log c.args.self.now c.self.view_is c.self.invariant) c.self.invariant.state) c.in-Ok-claim.ensures.kept
 
 pub returns-clause-task : goal.returns-clause-task
 returns-clause-task g c = subst (λ (l : BoardModel). (s : Submitted) → job_of (now l) c.in-Some.job ≡ Some s → c.in-Ok.task.items ≡ task_of (now l) s (kept_of l.products c.in-Some.job)) c.self.view_is

@@ -16,7 +16,7 @@ pub end_step-outcome-requires-clause-version : goal.end_step-outcome-requires-cl
 end_step-outcome-requires-clause-version g c = version_small g.H.Honest.honest c.self.inside.workers c.self.inside.room c.self.inside.names.items c.self.inside.state c.self.inside.log c.args.self.now c.self.view_is c.self.invariant
 
 pub invariant_of-self : goal.invariant_of-self
-invariant_of-self g c = added_end g.H.Honest.honest c.self.inside.workers c.self.inside.room c.self.inside.names.items c.self.inside.state c.self.inside.log c.args.self.now c.self.view_is c.self.invariant c.requires.room c.end_step-outcome.new.state c.record_turn.new.log c.args.job c.args.attempt c.end_step-outcome.result c.record_turn.ensures c.requires.claimed (c.end_step-outcome.ensures.state (w g.H.Honest.honest c.self.inside.workers c.self.inside.room c.self.inside.names.items c.self.inside.state c.self.inside.log c.args.self.now c.self.view_is c.self.invariant) c.self.invariant.state) c.end_step-outcome.ensures.orderly
+invariant_of-self g c = added_end g.H.Honest.honest c.self.inside.workers c.self.inside.room c.self.inside.names.items c.self.inside.state c.self.inside.log c.args.self.now c.self.view_is c.self.invariant c.requires.room c.end_step-outcome.new.state c.record_turn.new.log c.args.job c.args.attempt c.end_step-outcome.result c.record_turn.ensures c.requires.claimed (c.end_step-outcome.ensures.state (w g.H.Honest.honest c.self.inside.workers c.self.inside.room c.self.inside.names.items c.self.inside.state c.self.inside.log c.args.self.now c.self.view_is c.self.invariant) c.self.invariant.state)
     (c.end_step-outcome.ensures.kept (w g.H.Honest.honest c.self.inside.workers c.self.inside.room c.self.inside.names.items c.self.inside.state c.self.inside.log c.args.self.now c.self.view_is c.self.invariant) c.self.invariant.state c.self.invariant.kept (λ h. (back g.H.Honest.honest c.self.inside.workers c.self.inside.room c.self.inside.names.items c.self.inside.state c.self.inside.log c.args.self.now c.self.view_is c.self.invariant (λ (v : World Query). IsProductOf v (job_of v c.args.job) c.args.attempt c.args.answer) (c.requires.product h))))
 
 pub returns-clause-outcome : goal.returns-clause-outcome

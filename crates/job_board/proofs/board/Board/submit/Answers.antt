@@ -17,10 +17,10 @@ pub invariant_of-self : goal.invariant_of-self
 invariant_of-self g c =
     let days : IsDayRange c.args.range = (omega (arith, c.end.ensures), omega (arith, c.end.ensures, c.number-last_day.ensures)) in
     let refuses = sym (ap (λ (names : List (List ℕ)). verdict (named names) (w g.H.Honest.honest c.self.inside.workers c.self.inside.room c.self.inside.names.items c.self.inside.state c.self.inside.log c.args.self.now c.self.view_is c.self.invariant) (Submit Build c.args.range)) c.deref.ensures.value) ∙ sym (sym c.in-Ok-Some.field-0-is ∙ c.in-Ok-Some.ensures (w g.H.Honest.honest c.self.inside.workers c.self.inside.room c.self.inside.names.items c.self.inside.state c.self.inside.log c.args.self.now c.self.view_is c.self.invariant) c.self.invariant.state) in
-    added_refused g.H.Honest.honest c.self.inside.workers c.self.inside.room c.self.inside.names.items c.self.inside.state c.self.inside.log c.args.self.now c.self.view_is c.self.invariant c.requires.room c.set_line.new.state c.record_turn.new.log c.args.line c.args.range c.in-Ok-Some.refused c.record_turn.ensures c.requires.above days refuses (c.set_line.ensures.state (w g.H.Honest.honest c.self.inside.workers c.self.inside.room c.self.inside.names.items c.self.inside.state c.self.inside.log c.args.self.now c.self.view_is c.self.invariant) c.self.invariant.state) c.set_line.ensures.orderly c.set_line.ensures.others
+    added_refused g.H.Honest.honest c.self.inside.workers c.self.inside.room c.self.inside.names.items c.self.inside.state c.self.inside.log c.args.self.now c.self.view_is c.self.invariant c.requires.room c.set_line.new.state c.record_turn.new.log c.args.line c.args.range c.in-Ok-Some.refused c.record_turn.ensures c.requires.above days refuses (c.set_line.ensures.state (w g.H.Honest.honest c.self.inside.workers c.self.inside.room c.self.inside.names.items c.self.inside.state c.self.inside.log c.args.self.now c.self.view_is c.self.invariant) c.self.invariant.state) c.set_line.ensures.kept
 
 pub invariant_of-self-2 : goal.invariant_of-self-2
 invariant_of-self-2 g c =
     let days : IsDayRange c.args.range = (omega (arith, c.end.ensures), omega (arith, c.end.ensures, c.number-last_day.ensures)) in
     let accepts = sym (ap (λ (names : List (List ℕ)). verdict (named names) (w g.H.Honest.honest c.self.inside.workers c.self.inside.room c.self.inside.names.items c.self.inside.state c.self.inside.log c.args.self.now c.self.view_is c.self.invariant) (Submit Build c.args.range)) c.deref.ensures.value) ∙ sym (sym c.in-Ok-None.field-0-is ∙ c.in-Ok-None.ensures (w g.H.Honest.honest c.self.inside.workers c.self.inside.room c.self.inside.names.items c.self.inside.state c.self.inside.log c.args.self.now c.self.view_is c.self.invariant) c.self.invariant.state) in
-    added_submit g.H.Honest.honest c.self.inside.workers c.self.inside.room c.self.inside.names.items c.self.inside.state c.self.inside.log c.args.self.now c.self.view_is c.self.invariant c.requires.room c.submit.new.state c.record_turn-2.new.log c.args.line c.args.range c.record_turn-2.ensures c.requires.above days accepts (c.in-Ok.ensures.state (w g.H.Honest.honest c.self.inside.workers c.self.inside.room c.self.inside.names.items c.self.inside.state c.self.inside.log c.args.self.now c.self.view_is c.self.invariant) c.self.invariant.state) c.in-Ok.ensures.orderly c.in-Ok.ensures.products c.in-Ok.ensures.segments
+    added_submit g.H.Honest.honest c.self.inside.workers c.self.inside.room c.self.inside.names.items c.self.inside.state c.self.inside.log c.args.self.now c.self.view_is c.self.invariant c.requires.room c.submit.new.state c.record_turn-2.new.log c.args.line c.args.range c.record_turn-2.ensures c.requires.above days accepts (c.in-Ok.ensures.state (w g.H.Honest.honest c.self.inside.workers c.self.inside.room c.self.inside.names.items c.self.inside.state c.self.inside.log c.args.self.now c.self.view_is c.self.invariant) c.self.invariant.state) c.in-Ok.ensures.products c.in-Ok.ensures.ready
