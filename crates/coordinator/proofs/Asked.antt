@@ -4,8 +4,7 @@ use Rattle.std.specs.Prelude.{AllPairs, Contains, option_map}
 use Rattle.std.proofs.lemmas.Bool.{and_parts, eqb-true}
 use Rattle.std.proofs.lemmas.List.{length-map, length-take-le}
 use Rattle.std.proofs.lemmas.List.Elements.{All-nil}
-use Rattle.fixed_cube.specs.Answers.{by_first}
-use Rattle.fixed_cube.specs.Cube.{fixed}
+use Rattle.job_board.specs.Ledger.{cube, only_query}
 use Rattle.job_board.specs.BoardModel.{BoardModel, now, turns}
 use Rattle.outside.specs.Rises.{Risen}
 use Rattle.outside.specs.declared.stopper.Request.{Request}
@@ -24,7 +23,8 @@ use Rattle.script_text.specs.declared.block.Block.{Block}
 use Rattle.script_text.specs.declared.verb.Line.{Line}
 use Rattle.coordinator.specs.Coordinator.{IsFront, IsGrown, IsSound, asked_turns, is_done}
 use Rattle.coordinator.specs.Served.{rows_at, served}
-use Rattle.coordinator.specs.Stops.{AsksAmong, stops_along, stops_of}
+use Rattle.coordinator.specs.Stops.{AsksAmong, stops_of}
+use Rattle.flight_laws.specs.Stops.{stops_along}
 use Rattle.coordinator.specs.ExecutedLines.{HasExecuted, HasExecutedPart}
 
 -- ---- the stopper
@@ -34,8 +34,8 @@ stops_over : (inputs inputs' : Inputs) → inputs ≡ inputs' → (board : Board
 stops_over inputs inputs' same board history front e =
     subst (λ (i : Inputs). stops_of served i history ≡ []) same
     (ap (stops_of served inputs) e
-    ∙ (ap (stops_along fixed (start inputs.workers (length fixed.tables) [])) front.named
-    ∙ (ap (λ (n : ℕ). stops_along fixed (start n (length fixed.tables) []) (turns board)) (sym front.workers) ∙ front.no_stops)))
+    ∙ (ap (stops_along cube (start inputs.workers (length cube.tables) [])) front.named
+    ∙ (ap (λ (n : ℕ). stops_along cube (start n (length cube.tables) []) (turns board)) (sym front.workers) ∙ front.no_stops)))
 
 stops_none : (inputs : Inputs) (history : List Event) → history ≡ [] → stops_of served inputs history ≡ []
 stops_none inputs history e = ap (stops_of served inputs) e
@@ -89,7 +89,7 @@ pub taken-some : (honest : Type 0) (tables : List LoadedTable) (old : BoardModel
 taken-some honest tables old line said new (inl c) h =
     some_turn (turns old) [] (turns new) (Takes line.number (command_of served (rows_at tables line.number) line.verb)) c.added.turns h
 taken-some honest tables old line said new (inr q) h =
-    some_turn (turns old) (QueryTakes line.number ∷ QueryEnds line.number q.out ∷ []) (turns new) (Takes line.number (commands.Ask q.session by_first)) q.grown.turns h
+    some_turn (turns old) (QueryTakes line.number ∷ QueryEnds line.number q.out ∷ []) (turns new) (Takes line.number (commands.Ask q.session only_query)) q.grown.turns h
 
 no_line : (script : List Line) → script ≢ [] → length script ≡ 0 → ⊥
 no_line [] some e = some refl

@@ -1,7 +1,6 @@
 -- The blocks of commands on jobs.
 use Rattle.std.proofs.Common.{◌≡◌, ℕ, ◌+◌, Option, Some, None, Result, Ok, Err, length, refl, sym, ap, ◌∙◌}
 use Rattle.std.specs.Prelude.{option_map}
-use Rattle.fixed_cube.specs.Cube.{fixed}
 use Rattle.job_machine.specs.Job.{JobRecord, moved, moved_or_same, next, state_after}
 use Rattle.job_machine.specs.declared.state.JobKind.TheVariants.{Build}
 use Rattle.job_machine.specs.declared.state.JobState.{JobState}
@@ -25,6 +24,7 @@ use Rattle.run_transcript.specs.Entries.Entry.{Told}
 use Rattle.script_text.specs.declared.block.Block.{Block}
 use Rattle.script_text.specs.declared.block.Block.TheVariants as block
 use Rattle.script_text.specs.declared.verb.Verb.{Verb}
+use Rattle.job_board.specs.Ledger.{cube}
 use Rattle.coordinator.specs.Served.{served}
 
 -- ---- jobs that are steered
@@ -41,7 +41,7 @@ state_moved control.Discard after job = refl
 
 module _ (w : World Query) (line job : ℕ) (by : Control) (said : Option Verb) where
   steered_job : (s : Submitted) (after : JobState) → job_of w job ≡ Some s → state_after (act_of by) s.job.state ≡ Some after
-      → job_of (step fixed w (Takes line (Steer by job))) job ≡ Some (record s { job = next (act_of by) s.job })
+      → job_of (step cube w (Takes line (Steer by job))) job ≡ Some (record s { job = next (act_of by) s.job })
   steered_job s after e k =
       ap (λ (o : Option Submitted). job_of (by_verdict (steer_refusal by job o) 0 (record w { line = line }) (Steer by job)) job) e
       ∙ (ap (λ (a : Option JobState). job_of (by_verdict (steer_by s.job.state a) 0 (record w { line = line }) (Steer by job)) job) k
@@ -88,11 +88,11 @@ module _ (w : World Query) (line job : ℕ) (said : Option Verb) where
 -- ---- jobs that are submitted
 
 module _ (w : World Query) (line : ℕ) (range : Interval) (said : Option Verb) where
-  pub built_entry : (number : ℕ) → number ≡ length w.jobs + 1 → verdict fixed w (Submit Build range) ≡ None
+  pub built_entry : (number : ℕ) → number ≡ length w.jobs + 1 → verdict cube w (Submit Build range) ≡ None
       → entry_of served w line said (Submit Build range) ≡ Told line (block.Job number Build range)
   built_entry number n e =
       ap (λ (o : Option Refused). entry_by served o w line said (Submit Build range)) e ∙ ap (λ (k : ℕ). Told line (block.Job k Build range)) (sym n)
 
-  pub refused_entry : (refused : Refused) → verdict fixed w (Submit Build range) ≡ Some refused
+  pub refused_entry : (refused : Refused) → verdict cube w (Submit Build range) ≡ Some refused
       → entry_of served w line said (Submit Build range) ≡ Told line (block.Refused refused)
   refused_entry refused e = ap (λ (o : Option Refused). entry_by served o w line said (Submit Build range)) e

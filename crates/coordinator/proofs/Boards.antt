@@ -4,7 +4,7 @@ use Rattle.std.specs.List.{AllByRecursion}
 use Rattle.std.proofs.lemmas.List.{map-append, take-append-drop}
 use Rattle.std.proofs.lemmas.List.Concat.{flat_map-append}
 use Rattle.std.proofs.lemmas.List.Sums.{fold-append}
-use Rattle.fixed_cube.specs.Cube.{fixed}
+use Rattle.job_board.specs.Ledger.{cube}
 use Rattle.job_board.specs.BoardModel.{IsAdded, IsSame, BoardModel, now, turns}
 use Rattle.job_board.specs.Turns as board_turns
 use Rattle.job_machine.specs.Job.{state_after}
@@ -29,7 +29,7 @@ use Rattle.script_text.specs.declared.verb.Line.{Line}
 use Rattle.coordinator.specs.Coordinator.{AreNotInFlight, IsFront, IsGrown, IsOfStep, IsSound, IsWorked, entries_in, stops_in}
 use Rattle.coordinator.specs.Runs.{AreTrusted, IsOverNone}
 use Rattle.coordinator.specs.Served.{served}
-use Rattle.coordinator.specs.Stops.{request_for, requests_by, stops_along, stops_at}
+use Rattle.flight_laws.specs.Stops.{request_for, requests_by, stops_along, stops_at}
 
 -- ---- turns more
 
@@ -60,19 +60,19 @@ same-equal old mid new s e = subst (IsSame old) (sym e) s
 
 pub now-same : (old new : BoardModel) → IsSame old new → now new ≡ now old
 now-same old new s =
-    ap (λ (n : ℕ). world fixed n [] (turns new)) s.workers ∙ ap (λ (ts : List (Turn Ask)). world fixed old.workers [] ts) (ap board_turns.turns_of s.log)
+    ap (λ (n : ℕ). world cube n [] (turns new)) s.workers ∙ ap (λ (ts : List (Turn Ask)). world cube old.workers [] ts) (ap board_turns.turns_of s.log)
 
 module _ (old new : BoardModel) (later : List (Turn Ask)) (g : IsGrown old later new) where
-  pub now-grown : now new ≡ fold (step fixed) (now old) later
+  pub now-grown : now new ≡ fold (step cube) (now old) later
   now-grown =
-      ap (λ (n : ℕ). world fixed n [] (turns new)) g.workers
-      ∙ (ap (λ (ts : List (Turn Ask)). world fixed old.workers [] ts) g.turns ∙ fold-append (step fixed) (start old.workers (length fixed.tables) []) (turns old) later)
+      ap (λ (n : ℕ). world cube n [] (turns new)) g.workers
+      ∙ (ap (λ (ts : List (Turn Ask)). world cube old.workers [] ts) g.turns ∙ fold-append (step cube) (start old.workers (length cube.tables) []) (turns old) later)
 
   pub entries-grown : (script : List Line) → entries_in script new ≡ entries_along served script (now old) (entries_in script old) later
   entries-grown script =
-      ap (λ (n : ℕ). entries_along served script (start n (length fixed.tables) []) [] (turns new)) g.workers
-      ∙ (ap (λ (ts : List (Turn Ask)). entries_along served script (start old.workers (length fixed.tables) []) [] ts) g.turns
-      ∙ entries_along-append served script (start old.workers (length fixed.tables) []) [] (turns old) later)
+      ap (λ (n : ℕ). entries_along served script (start n (length cube.tables) []) [] (turns new)) g.workers
+      ∙ (ap (λ (ts : List (Turn Ask)). entries_along served script (start old.workers (length cube.tables) []) [] ts) g.turns
+      ∙ entries_along-append served script (start old.workers (length cube.tables) []) [] (turns old) later)
 
   pub named-grown : (inputs : Inputs) → turns_of served inputs (map event_of (turns old)) ≡ turns old → turns_of served inputs (map event_of later) ≡ later
       → turns_of served inputs (map event_of (turns new)) ≡ turns new
@@ -90,23 +90,23 @@ module _ (old new : BoardModel) (later : List (Turn Ask)) (g : IsGrown old later
 
 -- ---- the attempts that commands find in flight
 
-stops_append : (w : World Ask) (turns later : List (Turn Ask)) → stops_along fixed w (turns ++ later) ≡ stops_along fixed w turns ++ stops_along fixed (fold (step fixed) w turns) later
+stops_append : (w : World Ask) (turns later : List (Turn Ask)) → stops_along cube w (turns ++ later) ≡ stops_along cube w turns ++ stops_along cube (fold (step cube) w turns) later
 stops_append w [] later = refl
 stops_append w (turn ∷ turns) later =
-    ap (λ (rs : List Request). stops_at w turn ++ rs) (stops_append (step fixed w turn) turns later)
-    ∙ sym (append_assoc (stops_at w turn) (stops_along fixed (step fixed w turn) turns) (stops_along fixed (fold (step fixed) (step fixed w turn) turns) later))
+    ap (λ (rs : List Request). stops_at w turn ++ rs) (stops_append (step cube w turn) turns later)
+    ∙ sym (append_assoc (stops_at w turn) (stops_along cube (step cube w turn) turns) (stops_along cube (fold (step cube) (step cube w turn) turns) later))
 
-pub no-stops-grown : (old new : BoardModel) (later : List (Turn Ask)) → IsGrown old later new → stops_along fixed (now old) later ≡ [] → stops_in old ≡ [] → stops_in new ≡ []
+pub no-stops-grown : (old new : BoardModel) (later : List (Turn Ask)) → IsGrown old later new → stops_along cube (now old) later ≡ [] → stops_in old ≡ [] → stops_in new ≡ []
 no-stops-grown old new later g more none =
-    ap (λ (n : ℕ). stops_along fixed (start n (length fixed.tables) []) (turns new)) g.workers
-    ∙ (ap (stops_along fixed (start old.workers (length fixed.tables) [])) g.turns
-    ∙ (stops_append (start old.workers (length fixed.tables) []) (turns old) later
-    ∙ (ap (λ (rs : List Request). rs ++ stops_along fixed (now old) later) none ∙ more)))
+    ap (λ (n : ℕ). stops_along cube (start n (length cube.tables) []) (turns new)) g.workers
+    ∙ (ap (stops_along cube (start old.workers (length cube.tables) [])) g.turns
+    ∙ (stops_append (start old.workers (length cube.tables) []) (turns old) later
+    ∙ (ap (λ (rs : List Request). rs ++ stops_along cube (now old) later) none ∙ more)))
 
-stops_steps : (w : World Ask) (later : List (Turn Ask)) → AllByRecursion IsOfStep later → stops_along fixed w later ≡ []
+stops_steps : (w : World Ask) (later : List (Turn Ask)) → AllByRecursion IsOfStep later → stops_along cube w later ≡ []
 stops_steps w [] h = refl
-stops_steps w (Claims job attempt ∷ later) h = stops_steps (step fixed w (Claims job attempt)) later h.1
-stops_steps w (StepEnds job attempt outcome ∷ later) h = stops_steps (step fixed w (StepEnds job attempt outcome)) later h.1
+stops_steps w (Claims job attempt ∷ later) h = stops_steps (step cube w (Claims job attempt)) later h.1
+stops_steps w (StepEnds job attempt outcome ∷ later) h = stops_steps (step cube w (StepEnds job attempt outcome)) later h.1
 stops_steps w (Takes line command ∷ later) h = absurd h.0
 stops_steps w (QueryTakes line ∷ later) h = absurd h.0
 stops_steps w (QueryEnds line out ∷ later) h = absurd h.0
@@ -132,7 +132,7 @@ no-request w control job not_in_flight = by_found (job_of w job) refl
     by_found None e = refl
     by_found (Some s) e = stops_steered control job s (state_after (act_of control) s.job.state) (not_in_flight job s e)
 
-pub no-stops-command : (w : World Ask) (line : ℕ) (command : Command Ask) → AreNotInFlight w.jobs → stops_along fixed w (Takes line command ∷ []) ≡ []
+pub no-stops-command : (w : World Ask) (line : ℕ) (command : Command Ask) → AreNotInFlight w.jobs → stops_along cube w (Takes line command ∷ []) ≡ []
 no-stops-command w line (commands.Steer control job) not_in_flight = ap (λ (rs : List Request). rs ++ []) (no-request w control job not_in_flight)
 no-stops-command w line (commands.Load place rows) not_in_flight = refl
 no-stops-command w line (commands.Submit kind range) not_in_flight = refl
@@ -142,18 +142,18 @@ no-stops-command w line (commands.Note noted) not_in_flight = refl
 
 -- ---- what is trusted
 
-along-parts : (P : World Ask → Turn Ask → Type 0) (w : World Ask) (turns later : List (Turn Ask)) → Along fixed P w (turns ++ later)
-    → Along fixed P w turns × Along fixed P (fold (step fixed) w turns) later
+along-parts : (P : World Ask → Turn Ask → Type 0) (w : World Ask) (turns later : List (Turn Ask)) → Along cube P w (turns ++ later)
+    → Along cube P w turns × Along cube P (fold (step cube) w turns) later
 along-parts P w [] later h = (tt, h)
-along-parts P w (turn ∷ turns) later h = let rest = along-parts P (step fixed w turn) turns later h.1 in ((h.0, rest.0), rest.1)
+along-parts P w (turn ∷ turns) later h = let rest = along-parts P (step cube w turn) turns later h.1 in ((h.0, rest.0), rest.1)
 
 pub trusted-grown : (honest : Type 0) (old new : BoardModel) (later : List (Turn Ask)) → IsGrown old later new → AreTrusted honest new.workers (turns new)
-    → AreTrusted honest old.workers (turns old) × (honest ⊎ Along fixed IsOverNone (now old) later)
+    → AreTrusted honest old.workers (turns old) × (honest ⊎ Along cube IsOverNone (now old) later)
 trusted-grown honest old new later g (inl h) = (inl h, inl h)
 trusted-grown honest old new later g (inr h) =
-    let k = subst (λ (n : ℕ). Along fixed IsOverNone (start n (length fixed.tables) []) (turns old ++ later)) g.workers
-    (subst (λ (ts : List (Turn Ask)). Along fixed IsOverNone (start new.workers (length fixed.tables) []) ts) g.turns h) in
-    let parts = along-parts IsOverNone (start old.workers (length fixed.tables) []) (turns old) later k in
+    let k = subst (λ (n : ℕ). Along cube IsOverNone (start n (length cube.tables) []) (turns old ++ later)) g.workers
+    (subst (λ (ts : List (Turn Ask)). Along cube IsOverNone (start new.workers (length cube.tables) []) ts) g.turns h) in
+    let parts = along-parts IsOverNone (start old.workers (length cube.tables) []) (turns old) later k in
     (inr parts.0, inr parts.1)
 
 -- ---- claims and ends of steps
@@ -177,8 +177,8 @@ steps-lines (QueryEnds line out ∷ later) h = absurd h.0
 steps-entries : (script : List Line) (w : World Ask) (entries : List Entry) (later : List (Turn Ask)) → AllByRecursion IsOfStep later
     → entries_along served script w entries later ≡ entries
 steps-entries script w entries [] h = refl
-steps-entries script w entries (Claims job attempt ∷ later) h = steps-entries script (step fixed w (Claims job attempt)) entries later h.1
-steps-entries script w entries (StepEnds job attempt outcome ∷ later) h = steps-entries script (step fixed w (StepEnds job attempt outcome)) entries later h.1
+steps-entries script w entries (Claims job attempt ∷ later) h = steps-entries script (step cube w (Claims job attempt)) entries later h.1
+steps-entries script w entries (StepEnds job attempt outcome ∷ later) h = steps-entries script (step cube w (StepEnds job attempt outcome)) entries later h.1
 steps-entries script w entries (Takes line command ∷ later) h = absurd h.0
 steps-entries script w entries (QueryTakes line ∷ later) h = absurd h.0
 steps-entries script w entries (QueryEnds line out ∷ later) h = absurd h.0
@@ -200,6 +200,7 @@ worked-lines old new w =
 pub front-sound : (inputs : Inputs) (board : BoardModel) (taken : ℕ) → IsSound inputs board taken → IsFront inputs board
 front-sound inputs board taken s = record {
   workers = s.workers;
+  ready = s.ready;
   named = s.named;
   no_stops = s.no_stops;
   later = lines_in (drop taken inputs.script);
@@ -212,6 +213,7 @@ front-sound inputs board taken s = record {
 pub front-worked : (inputs : Inputs) (old new : BoardModel) → IsWorked old new → IsFront inputs old → IsFront inputs new
 front-worked inputs old new w f = record {
   workers = w.grown.workers ∙ f.workers;
+  ready = f.ready;
   named = worked-named inputs old new w f.named;
   later = f.later;
   in_order = f.in_order ∙ ap (λ (ls : List ℕ). ls ++ f.later) (sym (worked-lines old new w));

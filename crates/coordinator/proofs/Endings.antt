@@ -60,7 +60,7 @@ module _ (honest : Type 0) (script script' : List Line) (s : script' ≡ script)
 pub start-sound : (script : List Line) (tables : List LoadedTable) (board : BoardModel) (taken : ℕ) → board ≡ empty_board 1 → taken ≡ 0 → RisesFrom 0 script → IsSound (inputs_in script tables) board taken
 start-sound script tables board taken b t rise =
     subst (λ (x : BoardModel). IsSound (inputs_in script tables) x taken) (sym b)
-    (subst (λ (n : ℕ). IsSound (inputs_in script tables) (empty_board 1) n) (sym t) (sound-start (inputs_in script tables) (omega arith) rise))
+    (subst (λ (n : ℕ). IsSound (inputs_in script tables) (empty_board 1) n) (sym t) (sound-start (inputs_in script tables) refl (omega arith) rise))
 
 pub start-written : (honest : Type 0) (script : List Line) (board : BoardModel) (before : Option (List ℕ)) → board ≡ empty_board 1 → HasWritten honest script board before before
 start-written honest script board before b = subst (λ (x : BoardModel). HasWritten honest script x before before) (sym b) (written-start honest script 1 before)
@@ -84,7 +84,7 @@ pub inputs-are : (inputs : FixedInputs) (script : List Line) (tables : List Load
 inputs-are inputs script tables s t = ap (λ (lines : List Line). inputs_in lines tables) s ∙ ap (λ (loads : List LoadedTable). inputs_in inputs.script loads) t
 
 -- no turn was taken
-pub no-run : (honest : Type 0) (inputs : Inputs) (history : List Event) (before : Option (List ℕ)) → history ≡ [] → IsRunOver honest inputs history 1 before before
-no-run honest inputs history before e =
-    run-over honest inputs (empty_board inputs.workers) 0 1 history before before (record { workers = refl; named = refl; later = lines_in inputs.script; in_order = refl; no_stops = refl }) e tt tt
+pub no-run : (honest : Type 0) (inputs : Inputs) (history : List Event) (before : Option (List ℕ)) → inputs.ready ≡ [] → history ≡ [] → IsRunOver honest inputs history 1 before before
+no-run honest inputs history before none e =
+    run-over honest inputs (empty_board inputs.workers) 0 1 history before before (record { workers = refl; ready = none; named = refl; later = lines_in inputs.script; in_order = refl; no_stops = refl }) e tt tt
     (λ z. absurd (omega (arith, z))) (λ z. absurd (omega (arith, z))) (λ z. absurd (omega (arith, z))) (λ z trusted. part_nothing before before _ refl)

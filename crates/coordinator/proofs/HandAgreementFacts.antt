@@ -1,23 +1,19 @@
 -- Turns more, and the hand.
-use Rattle.std.proofs.Common.{◌≡◌, ◌≢◌, ◌⊎◌, ℕ, zero, suc, Bool, true, false, Option, Some, None, Ok, Err, IsErrOf, List, [], ◌∷◌, ◌++◌, All, map, take, refl, sym, ap, ◌∙◌, subst, inl, inr, append_assoc}
+use Rattle.std.proofs.Common.{◌≡◌, ℕ, zero, suc, Bool, true, false, Option, Some, None, List, [], ◌∷◌, ◌++◌, All, map, take, refl, sym, ap, ◌∙◌, subst, inl, inr, append_assoc}
 use Rattle.std.specs.List.{AllByRecursion}
 use Rattle.std.proofs.lemmas.List.{map-append}
-use Rattle.std.proofs.lemmas.List.Elements.{All-append, All-from_recursion, All-nil, All-weaker}
-use Rattle.fixed_cube.specs.Cube.{fixed}
-use Rattle.fixed_state.specs.Ends.{Answer, IsJudged, IsOutcomeOf, outcome_of, stale_outcome}
+use Rattle.std.proofs.lemmas.List.Elements.{All-append, All-from_recursion, All-nil}
+use Rattle.job_board.specs.Ledger.{Answer, cube}
 use Rattle.job_board.specs.BoardModel.{IsAdded, IsCountedAs, IsRecordedAs, IsSame, BoardModel, task_of, turns}
 use Rattle.job_board.specs.declared.answers.Work.{Work}
 use Rattle.job_machine.specs.Job.{is_current}
-use Rattle.outside.specs.Hands.{AnswersFails, Call, Fail, call_of, fault_for, with_call}
-use Rattle.outside.specs.declared.hand.HandFault.{HandFault}
-use Rattle.outside.specs.declared.hand.HandFault.TheVariants as fault
+use Rattle.outside.specs.Hands.{Call, Fail, call_of, with_call}
 use Rattle.plain_answer.specs.declared.ask.Ask.{Ask}
 use Rattle.run_history.specs.Commands.{Turn, event_of}
-use Rattle.run_history.specs.Commands.Turn.{Takes, Claims, StepEnds, QueryTakes, QueryEnds}
+use Rattle.run_history.specs.Commands.Turn.{Takes, Claims, StepEnds, QueryEnds}
 use Rattle.run_history.specs.World.{Submitted, World}
 use Rattle.run_history.specs.declared.event.Event.{Event}
 use Rattle.run_history.specs.declared.event.Outcome.{Outcome}
-use Rattle.run_history.specs.declared.event.Outcome.TheVariants as outcome
 use Rattle.run_inputs.specs.declared.inputs.LoadedTable.{LoadedTable}
 use Rattle.run_transcript.specs.Runs.{turns_of}
 use Rattle.run_transcript.specs.Served.{Inputs, command_of}
@@ -25,39 +21,20 @@ use Rattle.script_text.specs.declared.block.Block.{Block}
 use Rattle.script_text.specs.declared.verb.Line.{Line}
 use Rattle.coordinator.specs.Claims.{IsClaimed}
 use Rattle.coordinator.specs.Coordinator.{IsFront, IsGrown, asked_turns}
-use Rattle.coordinator.specs.Runs.{is_fault}
 use Rattle.coordinator.specs.Served.{rows_at, served}
 use Rattle.coordinator.specs.ExecutedLines.{HasExecuted, HasExecutedPart}
-use Rattle.coordinator.specs.HandAgreement.{EndsNoStep, HasRun, AgreesWithHand}
-use Rattle.coordinator.specs.StepOutcomes.{AreCallsOf, EndsBy, IsEndBy, IsUndamaged, StandsAmong, is_damage}
+use Rattle.coordinator.specs.HandAgreement.{HasRun, AgreesWithHand}
+use Rattle.step_outcomes.specs.Ends.{EndsNoStep}
+use Rattle.step_outcomes.specs.Calls.{AreCallsOf}
+use Rattle.step_outcomes.specs.Ends.{IsUndamaged}
+use Rattle.step_outcomes.specs.Faults.{IsEndBy}
 use Rattle.coordinator.proofs.Boards.{grown-added, grown-same}
 use Rattle.coordinator.proofs.Start.{empty_board}
-use Rattle.coordinator.proofs.StepOutcomeFacts.{calls-missed, calls-more, calls-none, calls-silent, calls-start, calls-step, stands-among, with_calls}
+use Rattle.step_outcomes.proofs.CallFacts.{calls-missed, calls-more, calls-none, calls-silent, calls-start, calls-step, with_calls}
+use Rattle.step_outcomes.proofs.AnswerFacts.{IsOfAnswer, current_answer, stale_answer}
+use Rattle.step_outcomes.proofs.FaultFacts.{no_damage, silent_ends, silent_sound}
 
 -- ---- what is recorded of an answer
-
--- what is recorded of a product is no fault
-judged_no_fault : (task bytes : List ℕ) (o : Outcome) → IsJudged task bytes o → is_fault o ≡ false
-judged_no_fault task bytes outcome.Done h = refl
-judged_no_fault task bytes outcome.Damaged h = refl
-judged_no_fault task bytes outcome.Memory h = refl
-judged_no_fault task bytes outcome.NotStarted h = absurd h
-judged_no_fault task bytes (outcome.Ended status) h = absurd h
-judged_no_fault task bytes outcome.Killed h = absurd h
-judged_no_fault task bytes outcome.NoFile h = absurd h
-
--- a fault is recorded as it is
-abbrev pub IsOfAnswer : Answer → Outcome → Type 0
-IsOfAnswer (Ok product) o = is_fault o ≡ false
-IsOfAnswer (Err f) o = o ≡ outcome_of f
-
-stale_answer : (answer : Answer) (o : Outcome) → o ≡ stale_outcome answer → IsOfAnswer answer o
-stale_answer (Ok product) o e = ap is_fault e
-stale_answer (Err f) o e = e
-
-current_answer : (task : List ℕ) (answer : Answer) (o : Outcome) → IsOutcomeOf task answer o → IsOfAnswer answer o
-current_answer task (Ok product) o h = judged_no_fault task product.items o h
-current_answer task (Err f) o e = e
 
 counted_answer : (b : Bool) (task : List ℕ) (answer : Answer) (o : Outcome) → IsCountedAs b task answer o → IsOfAnswer answer o
 counted_answer true task answer o h = current_answer task answer o h
@@ -68,56 +45,7 @@ pub recorded-answer : (w : World Ask) (found : Option Submitted) (products : Lis
 recorded-answer w None products attempt answer o h = stale_answer answer o h
 recorded-answer w (Some s) products attempt answer o h = counted_answer (is_current s.job attempt) (task_of w s products) answer o h
 
-ends_memory : (met : Option HandFault) (o : Outcome) → o ≡ outcome.Memory → EndsBy met o
-ends_memory None o e = ap is_fault e
-ends_memory (Some f) o e = inr e
-
-follows_told : (fails : List Fail) (job attempt : ℕ) (answer : Answer) (o : Outcome) → AnswersFails (Some fails) job attempt answer → IsOfAnswer answer o → EndsBy (fault_for job attempt fails) o
-follows_told fails job attempt (Ok product) o a h = subst (λ (met : Option HandFault). EndsBy met o) (sym a) h
-follows_told fails job attempt (Err f) o (inl m) h = ends_memory (fault_for job attempt fails) o (h ∙ ap outcome_of m)
-follows_told fails job attempt (Err f) o (inr e) h = subst (λ (met : Option HandFault). EndsBy met o) (sym e) (inl h)
-
--- the end of an attempt follows the faults that the hand tells
-pub follows-fails : (told : Option (List Fail)) (job attempt : ℕ) (answer : Answer) (o : Outcome) → AnswersFails told job attempt answer → IsOfAnswer answer o
-    → (fails : List Fail) → told ≡ Some fails → EndsBy (fault_for job attempt fails) o
-follows-fails told job attempt answer o a h fails e = follows_told fails job attempt answer o (subst (λ (x : Option (List Fail)). AnswersFails x job attempt answer) e a) h
-
--- the call of an answer, by what the hand says of answers with memory and without
-pub called-by : (answer : Answer) (o : Outcome) (with same : Type 0) → IsOfAnswer answer o → (answer ≢ Err fault.Memory → with) → (IsErrOf answer fault.Memory → with ⊎ same)
-    → with ⊎ ((o ≡ outcome.Memory) × same)
-called-by (Ok product) o with same h k m = inl (k (λ e. cc))
-called-by (Err fault.NotStarted) o with same h k m = inl (k (λ e. cc))
-called-by (Err (fault.Ended status)) o with same h k m = inl (k (λ e. cc))
-called-by (Err fault.Killed) o with same h k m = inl (k (λ e. cc))
-called-by (Err fault.NoFile) o with same h k m = inl (k (λ e. cc))
-called-by (Err fault.Memory) o with same h k m = elim (m refl) [ inl x ↦ inl x | inr y ↦ inr (h, y) ]
-
 -- ---- turns
-
-silent_ends : (fails : List Fail) (later : List (Turn Ask)) → AllByRecursion EndsNoStep later → AllByRecursion (IsEndBy fails) (map event_of later)
-silent_ends fails [] h = tt
-silent_ends fails (Claims job attempt ∷ later) h = (tt, silent_ends fails later h.1)
-silent_ends fails (Takes line command ∷ later) h = (tt, silent_ends fails later h.1)
-silent_ends fails (QueryTakes line ∷ later) h = (tt, silent_ends fails later h.1)
-silent_ends fails (QueryEnds line out ∷ later) h = (tt, silent_ends fails later h.1)
-silent_ends fails (StepEnds job attempt o ∷ later) h = absurd h.0
-
-silent_sound : (later : List (Turn Ask)) → AllByRecursion EndsNoStep later → AllByRecursion IsUndamaged (map event_of later)
-silent_sound [] h = tt
-silent_sound (Claims job attempt ∷ later) h = (refl, silent_sound later h.1)
-silent_sound (Takes line command ∷ later) h = (refl, silent_sound later h.1)
-silent_sound (QueryTakes line ∷ later) h = (refl, silent_sound later h.1)
-silent_sound (QueryEnds line out ∷ later) h = (refl, silent_sound later h.1)
-silent_sound (StepEnds job attempt o ∷ later) h = absurd h.0
-
-no_damage : (o : Outcome) → o ≢ outcome.Damaged → is_damage o ≡ false
-no_damage outcome.Damaged h = absurd (h refl)
-no_damage outcome.Done h = refl
-no_damage outcome.NotStarted h = refl
-no_damage (outcome.Ended status) h = refl
-no_damage outcome.Killed h = refl
-no_damage outcome.NoFile h = refl
-no_damage outcome.Memory h = refl
 
 all_grown : (P : Event → Type 0) (old new later : List (Turn Ask)) → new ≡ old ++ later → All P (map event_of old) → AllByRecursion P (map event_of later) → All P (map event_of new)
 all_grown P old new later e h k =
@@ -134,9 +62,9 @@ module _ {H : Type 0} (honest : Type 0) (fails : H → Option (List Fail)) (call
     new_calls = t.new_calls;
     told_calls = t.told_calls;
     are_calls =
-        subst (λ (n : ℕ). AreCallsOf fixed honest n (turns new) t.new_calls) (sym g.workers)
-        (subst (λ (ts : List (Turn Ask)). AreCallsOf fixed honest old.workers ts t.new_calls) (sym g.turns)
-        (calls-silent fixed honest old.workers (turns old) later t.new_calls silent t.are_calls));
+        subst (λ (n : ℕ). AreCallsOf cube honest n (turns new) t.new_calls) (sym g.workers)
+        (subst (λ (ts : List (Turn Ask)). AreCallsOf cube honest old.workers ts t.new_calls) (sym g.turns)
+        (calls-silent cube honest old.workers (turns old) later t.new_calls silent t.are_calls));
   }
 
   -- a step from its claim to its end
@@ -156,12 +84,12 @@ module _ {H : Type 0} (honest : Type 0) (fails : H → Option (List Fail)) (call
     workers : new.workers ≡ old.workers
     workers = ended.workers ∙ claimed.added.workers
 
-    moved : (cs : List Call) → AreCallsOf fixed honest old.workers (turns old ++ step_turns) cs → AreCallsOf fixed honest new.workers (turns new) cs
+    moved : (cs : List Call) → AreCallsOf cube honest old.workers (turns old ++ step_turns) cs → AreCallsOf cube honest new.workers (turns new) cs
     moved cs c =
-        subst (λ (n : ℕ). AreCallsOf fixed honest n (turns new) cs) (sym workers) (subst (λ (ts : List (Turn Ask)). AreCallsOf fixed honest old.workers ts cs) (sym grown) c)
+        subst (λ (n : ℕ). AreCallsOf cube honest n (turns new) cs) (sym workers) (subst (λ (ts : List (Turn Ask)). AreCallsOf cube honest old.workers ts cs) (sym grown) c)
 
     -- .. with the calls that are new then
-    agrees_with : (cs : List Call) → calls hand' ≡ with_calls (calls base) cs → AreCallsOf fixed honest old.workers (turns old ++ step_turns) cs → AgreesWithHand honest fails calls base hand' new
+    agrees_with : (cs : List Call) → calls hand' ≡ with_calls (calls base) cs → AreCallsOf cube honest old.workers (turns old ++ step_turns) cs → AgreesWithHand honest fails calls base hand' new
     agrees_with cs told c = record {
       fails_same = ran.fails_same ∙ t.fails_same;
       follows = λ list e. all_grown (IsEndBy list) (turns old) (turns new) step_turns grown (t.follows list e) (tt, (ran.follows list (t.fails_same ∙ e), tt));
@@ -175,8 +103,8 @@ module _ {H : Type 0} (honest : Type 0) (fails : H → Option (List Fail)) (call
     agrees-step = elim ran.called [
       | inl e ↦
           agrees_with (t.new_calls ++ call ∷ []) (e ∙ (ap (λ (told : Option (List Call)). with_call told call) t.told_calls ∙ calls-more (calls base) t.new_calls call))
-          (calls-step fixed honest old.workers (turns old) t.new_calls t.are_calls call o claimed.job (λ trust. (claimed.there, claimed.task trust)))
-      | inr e ↦ agrees_with t.new_calls (e.1 ∙ t.told_calls) (calls-missed fixed honest old.workers (turns old) t.new_calls t.are_calls call o e.0)
+          (calls-step cube honest old.workers (turns old) t.new_calls t.are_calls call o claimed.job (λ trust. (claimed.there, claimed.task trust)))
+      | inr e ↦ agrees_with t.new_calls (e.1 ∙ t.told_calls) (calls-missed cube honest old.workers (turns old) t.new_calls t.are_calls call o e.0)
     ]
 
   -- the same turns
@@ -214,7 +142,7 @@ module _ {H : Type 0} (honest : Type 0) (fails : H → Option (List Fail)) (call
     sound = λ trust. All-nil IsUndamaged;
     new_calls = [];
     told_calls = calls-none (calls base);
-    are_calls = calls-start fixed honest 1;
+    are_calls = calls-start cube honest 1;
   }
 
   pub agrees-start : (board : BoardModel) → board ≡ empty_board 1 → AgreesWithHand honest fails calls base base board
@@ -225,18 +153,15 @@ module _ {H : Type 0} (honest : Type 0) (fails : H → Option (List Fail)) (call
 pub none-all : (P : Event → Type 0) (history : List Event) → history ≡ [] → All P history
 none-all P history e = subst (All P) (sym e) (All-nil P)
 
-pub all-stand : (told : List Fail) (history : List Event) → All (IsEndBy told) history → All (StandsAmong told) history
-all-stand told history h = All-weaker (IsEndBy told) (StandsAmong told) (stands-among told) history h
-
 -- the calls of a board's turns are those of its events over the inputs
 pub calls-over : (honest : Type 0) (inputs inputs' : Inputs) → inputs ≡ inputs' → (board : BoardModel) (history : List Event) (calls : List Call) → IsFront inputs board
-    → history ≡ map event_of (turns board) → AreCallsOf fixed honest board.workers (turns board) calls → AreCallsOf fixed honest inputs'.workers (turns_of served inputs' history) calls
+    → history ≡ map event_of (turns board) → AreCallsOf cube honest board.workers (turns board) calls → AreCallsOf cube honest inputs'.workers (turns_of served inputs' history) calls
 calls-over honest inputs inputs' same board history calls front e c =
-    subst (λ (i : Inputs). AreCallsOf fixed honest i.workers (turns_of served i history) calls) same
-    (subst (λ (h : List Event). AreCallsOf fixed honest inputs.workers (turns_of served inputs h) calls) (sym e)
-    (subst (λ (ts : List (Turn Ask)). AreCallsOf fixed honest inputs.workers ts calls) (sym front.named)
-    (subst (λ (n : ℕ). AreCallsOf fixed honest n (turns board) calls) front.workers c)))
+    subst (λ (i : Inputs). AreCallsOf cube honest i.workers (turns_of served i history) calls) same
+    (subst (λ (h : List Event). AreCallsOf cube honest inputs.workers (turns_of served inputs h) calls) (sym e)
+    (subst (λ (ts : List (Turn Ask)). AreCallsOf cube honest inputs.workers ts calls) (sym front.named)
+    (subst (λ (n : ℕ). AreCallsOf cube honest n (turns board) calls) front.workers c)))
 
-pub calls-none_over : (honest : Type 0) (inputs : Inputs) (history : List Event) → history ≡ [] → AreCallsOf fixed honest inputs.workers (turns_of served inputs history) []
+pub calls-none_over : (honest : Type 0) (inputs : Inputs) (history : List Event) → history ≡ [] → AreCallsOf cube honest inputs.workers (turns_of served inputs history) []
 calls-none_over honest inputs history e =
-    subst (λ (h : List Event). AreCallsOf fixed honest inputs.workers (turns_of served inputs h) []) (sym e) (calls-start fixed honest inputs.workers)
+    subst (λ (h : List Event). AreCallsOf cube honest inputs.workers (turns_of served inputs h) []) (sym e) (calls-start cube honest inputs.workers)

@@ -2,7 +2,6 @@
 use Rattle.std.proofs.Common.{◌≡◌, ℕ, ◌≤◌, ◌<◌, Bool, true, false, Option, Some, None, List, [], ◌∷◌, ◌++◌, ◌+◌, length, refl, ap, ◌∙◌, arith, eq-eqb, length-append, unwrap_or}
 use Rattle.std.specs.List.{position}
 use Rattle.std.specs.Str.{bytes_eq}
-use Rattle.fixed_cube.specs.Cube.{fixed}
 use Rattle.job_machine.specs.Job.{Act, new_job, next}
 use Rattle.job_machine.specs.declared.state.Ended.{Ended}
 use Rattle.job_machine.specs.declared.state.Ended.TheVariants as ended
@@ -25,6 +24,7 @@ use Rattle.script_text.specs.declared.verb.Verb.TheVariants as verb
 use Rattle.coordinator.specs.Claims.{IsAloneInFlight, IsStepping}
 use Rattle.coordinator.specs.Coordinator.{IsIdle, is_query}
 use Rattle.coordinator.specs.Served.{served}
+use Rattle.job_board.specs.Ledger.{cube}
 use Rattle.coordinator.proofs.InFlight.{alone-claimed, not_in_flight-absent, not_in_flight-added, not_in_flight-ended, not_in_flight-set, not_in_flight-steered}
 
 -- a set more
@@ -51,7 +51,7 @@ no_ask_load (Some place) rows = refl
 
 pub no_ask : (rows : Rows) (said : Verb) → is_query said ≡ false → is_ask (command_of served rows said) ≡ false
 no_ask rows (verb.Descriptor path) h = refl
-no_ask rows (verb.Load name path) h = no_ask_load (position (bytes_eq name) fixed.tables) rows
+no_ask rows (verb.Load name path) h = no_ask_load (position (bytes_eq name) cube.tables) rows
 no_ask rows (verb.Build range) h = refl
 no_ask rows (verb.Refresh range) h = refl
 no_ask rows (verb.Merge range) h = refl
@@ -96,9 +96,9 @@ idle_by : (refusal : Option Refused) (n : ℕ) (w : World Query) (command : Comm
 idle_by (Some refused) n w command h i = i
 idle_by None n w command h i = idle_accepted n w command h i
 
-pub idle-command : (w : World Query) (line : ℕ) (command : Command Query) → is_ask command ≡ false → IsIdle w → IsIdle (step fixed w (Takes line command))
+pub idle-command : (w : World Query) (line : ℕ) (command : Command Query) → is_ask command ≡ false → IsIdle w → IsIdle (step cube w (Takes line command))
 idle-command w line command h i =
-    idle_by (verdict fixed w command) (steps_of fixed command) (record w { line = line }) command h
+    idle_by (verdict cube w command) (steps_of cube command) (record w { line = line }) command h
     (record { workers = i.workers; answers = i.answers; steps = i.steps; waiting = i.waiting; asked = i.asked; not_in_flight = i.not_in_flight })
 
 line_steered : (w : World Query) (control : Control) (job : ℕ) (found : Option Submitted) → (steered w control job found).line ≡ w.line
@@ -115,8 +115,8 @@ line_by None n w (Ask session query) = refl
 line_by None n w (Note noted) = refl
 
 -- the line of the last command
-pub line-command : (w : World Query) (line : ℕ) (command : Command Query) → (step fixed w (Takes line command)).line ≡ line
-line-command w line command = line_by (verdict fixed w command) (steps_of fixed command) (record w { line = line }) command
+pub line-command : (w : World Query) (line : ℕ) (command : Command Query) → (step cube w (Takes line command)).line ≡ line
+line-command w line command = line_by (verdict cube w command) (steps_of cube command) (record w { line = line }) command
 
 -- ---- steps
 
@@ -131,7 +131,7 @@ stepping_claimed w job attempt (Some s) e h i = record {
   alone = alone-claimed w.jobs job attempt s (record s { job = next Act.Claim s.job; tables = Some (unwrap_or s.tables (in_force w)) }) e h refl i.not_in_flight;
 }
 
-pub stepping-claim : (w : World Query) (job attempt : ℕ) → IsNextAttempt (job_of w job) attempt → IsIdle w → IsStepping (step fixed w (Claims job attempt)) job attempt
+pub stepping-claim : (w : World Query) (job attempt : ℕ) → IsNextAttempt (job_of w job) attempt → IsIdle w → IsStepping (step cube w (Claims job attempt)) job attempt
 stepping-claim w job attempt h i = stepping_claimed w job attempt (job_of w job) refl h i
 
 -- the claim is there
@@ -170,7 +170,7 @@ module _ (w : World Query) (job attempt : ℕ) (i : IsQuiet w) (alone : IsAloneI
       record { workers = i.workers; answers = i.answers; steps = i.steps; waiting = i.waiting; asked = i.asked; not_in_flight = not_in_flight-absent w.jobs job attempt alone e }
   idle_ended outcome (Some s) e = idle_ended_as (end_by outcome s.job attempt) outcome s e refl
 
-pub idle-end : (w : World Query) (job attempt : ℕ) (outcome : Outcome) → IsStepping w job attempt → IsIdle (step fixed w (StepEnds job attempt outcome))
+pub idle-end : (w : World Query) (job attempt : ℕ) (outcome : Outcome) → IsStepping w job attempt → IsIdle (step cube w (StepEnds job attempt outcome))
 idle-end w job attempt outcome s =
     let none : without_claim job attempt ((job, attempt) ∷ []) ≡ [] = rw (eq-eqb job job refl, eq-eqb attempt attempt refl) refl in
     idle_ended (record w { steps = without_claim job attempt w.steps }) job attempt
@@ -181,7 +181,7 @@ line_claimed : (w : World Query) (job attempt : ℕ) (found : Option Submitted) 
 line_claimed w job attempt None = refl
 line_claimed w job attempt (Some s) = refl
 
-pub line-claim : (w : World Query) (job attempt : ℕ) → (step fixed w (Claims job attempt)).line ≡ w.line
+pub line-claim : (w : World Query) (job attempt : ℕ) → (step cube w (Claims job attempt)).line ≡ w.line
 line-claim w job attempt = line_claimed w job attempt (job_of w job)
 
 line_ended_as : (e : Ended) (w : World Query) (job : ℕ) (s : Submitted) → (ended_as e w job s).line ≡ w.line
@@ -194,5 +194,5 @@ line_ended : (w : World Query) (job attempt : ℕ) (outcome : Outcome) (found : 
 line_ended w job attempt outcome None = refl
 line_ended w job attempt outcome (Some s) = line_ended_as (end_by outcome s.job attempt) w job s
 
-pub line-end : (w : World Query) (job attempt : ℕ) (outcome : Outcome) → (step fixed w (StepEnds job attempt outcome)).line ≡ w.line
+pub line-end : (w : World Query) (job attempt : ℕ) (outcome : Outcome) → (step cube w (StepEnds job attempt outcome)).line ≡ w.line
 line-end w job attempt outcome = line_ended (record w { steps = without_claim job attempt w.steps }) job attempt outcome (job_of w job)

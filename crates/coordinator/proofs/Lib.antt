@@ -16,7 +16,5 @@ pub mod NextTurns
 pub mod Blocks
 pub mod Endings
 pub mod InFlight
-pub mod NextTasks
-pub mod StepOutcomeFacts
 pub mod HandAgreementFacts
 pub mod Asked

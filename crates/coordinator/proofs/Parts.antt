@@ -2,8 +2,7 @@
 use Rattle.std.proofs.Common.{◌≡◌, ℕ, zero, suc, ◌+◌, Option, Some, List, [], ◌∷◌, ◌++◌, map, take, drop, slice_get, refl, sym, ap, ◌∙◌, subst, inl, inr, append_assoc}
 use Rattle.std.specs.Io.KnownBytes.{append_known}
 use Rattle.std.proofs.lemmas.List.{map-append, take-append-drop}
-use Rattle.fixed_cube.specs.Answers.{by_first}
-use Rattle.fixed_cube.specs.Cube.{fixed}
+use Rattle.job_board.specs.Ledger.{cube, only_query}
 use Rattle.job_board.specs.BoardModel.{BoardModel, now, turns}
 use Rattle.outside.specs.Written.{AppendsPart}
 use Rattle.plain_answer.specs.declared.ask.Ask.{Ask as Query}
@@ -19,9 +18,9 @@ use Rattle.script_text.specs.Blocks.{block_text}
 use Rattle.script_text.specs.declared.block.Block.{Block}
 use Rattle.script_text.specs.declared.verb.Line.{Line}
 use Rattle.coordinator.specs.Coordinator.{HasWritten, HasWrittenPart, IsCounted, IsFront, IsGrown, IsSound, IsWorked, RisesFrom, asked_turns, entries_in, inputs_in}
-use Rattle.coordinator.specs.Runs.{fault_ends, run_ends}
+use Rattle.step_outcomes.specs.Ends.{fault_ends, run_ends}
 use Rattle.coordinator.specs.Served.{rows_at, served}
-use Rattle.coordinator.specs.Stops.{stops_along}
+use Rattle.flight_laws.specs.Stops.{stops_along}
 use Rattle.coordinator.specs.ExecutedLines.{IsPartOfQuery, HasExecuted, HasExecutedPart}
 use Rattle.coordinator.proofs.Boards.{entries-grown, grown-added, lines-grown, named-grown, no-stops-grown, trusted-grown, worked-entries}
 use Rattle.coordinator.proofs.Ends.{counted-silent}
@@ -78,9 +77,10 @@ written-worked honest script old new before written w h = λ trusted.
 module _ (script : List Line) (tables : List LoadedTable) (old : BoardModel) (taken : ℕ) (new : BoardModel) (s : IsSound (inputs_in script tables) old taken) where
   -- the lines taken are the first ones
   front-grown : (later : List (Turn Query)) (lines rest : List ℕ) → IsGrown old later new → turns_of served (inputs_in script tables) (map event_of later) ≡ later
-      → lines_taken (map event_of later) ≡ lines → lines_in (drop taken script) ≡ lines ++ rest → stops_along fixed (now old) later ≡ [] → IsFront (inputs_in script tables) new
+      → lines_taken (map event_of later) ≡ lines → lines_in (drop taken script) ≡ lines ++ rest → stops_along cube (now old) later ≡ [] → IsFront (inputs_in script tables) new
   front-grown later lines rest g named l r none = record {
     no_stops = no-stops-grown old new later g none s.no_stops;
+    ready = s.ready;
     workers = g.workers ∙ s.workers;
     named = named-grown old new later g (inputs_in script tables) s.named named;
     later = rest;
@@ -100,15 +100,15 @@ module _ (script : List Line) (tables : List LoadedTable) (old : BoardModel) (ta
     front-query : (q : IsPartOfQuery old line new) (count : ℕ) → q.count ≡ count → IsFront (inputs_in script tables) new
     front-query q zero c = front-grown [] [] (lines_in (drop taken script)) (subst (λ (n : ℕ). IsGrown old (take n (asked_turns line.number q.session)) new) c q.grown) refl refl refl refl
     front-query q (suc zero) c =
-        let asks : command_at served (inputs_in script tables) line.number ≡ Ask q.session by_first = command_found script tables taken line rise e ∙ ap (command_of served (rows_at tables line.number)) q.asks in
-        front-grown (Takes line.number (Ask q.session by_first) ∷ []) (line.number ∷ []) (lines_in (drop (taken + 1) script))
+        let asks : command_at served (inputs_in script tables) line.number ≡ Ask q.session only_query = command_found script tables taken line rise e ∙ ap (command_of served (rows_at tables line.number)) q.asks in
+        front-grown (Takes line.number (Ask q.session only_query) ∷ []) (line.number ∷ []) (lines_in (drop (taken + 1) script))
         (subst (λ (n : ℕ). IsGrown old (take n (asked_turns line.number q.session)) new) c q.grown) (ap (λ (k : Command Query). Takes line.number k ∷ []) asks) refl first_line refl
     front-query q (suc (suc zero)) c =
-        let asks : command_at served (inputs_in script tables) line.number ≡ Ask q.session by_first = command_found script tables taken line rise e ∙ ap (command_of served (rows_at tables line.number)) q.asks in
+        let asks : command_at served (inputs_in script tables) line.number ≡ Ask q.session only_query = command_found script tables taken line rise e ∙ ap (command_of served (rows_at tables line.number)) q.asks in
         front-grown (asked_turns line.number q.session) (line.number ∷ []) (lines_in (drop (taken + 1) script))
         (subst (λ (n : ℕ). IsGrown old (take n (asked_turns line.number q.session)) new) c q.grown) (ap (λ (k : Command Query). Takes line.number k ∷ QueryTakes line.number ∷ []) asks) refl first_line refl
     front-query q (suc (suc (suc n))) c =
-        let asks : command_at served (inputs_in script tables) line.number ≡ Ask q.session by_first = command_found script tables taken line rise e ∙ ap (command_of served (rows_at tables line.number)) q.asks in
+        let asks : command_at served (inputs_in script tables) line.number ≡ Ask q.session only_query = command_found script tables taken line rise e ∙ ap (command_of served (rows_at tables line.number)) q.asks in
         front-grown (asked_turns line.number q.session) (line.number ∷ []) (lines_in (drop (taken + 1) script))
         (subst (λ (m : ℕ). IsGrown old (take m (asked_turns line.number q.session)) new) c q.grown) (ap (λ (k : Command Query). Takes line.number k ∷ QueryTakes line.number ∷ []) asks) refl first_line refl
 

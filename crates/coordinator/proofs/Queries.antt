@@ -2,9 +2,7 @@
 use Rattle.std.proofs.Common.{◌≡◌, ℕ, ◌≤◌, ◌<◌, ◌⊎◌, Bool, true, false, cond, not, ◌||◌, ◌==◌, Option, Some, None, List, [], ◌∷◌, ◌++◌, length, slice_get, take, unwrap_or, refl, sym, ap, ◌∙◌, subst, inl, inr, arith, eq-eqb}
 use Rattle.std.specs.Prelude.{filter, find}
 use Rattle.std.specs.List.{list_any}
-use Rattle.fixed_cube.specs.Answers.{by_first}
-use Rattle.fixed_cube.specs.Cube.{fixed}
-use Rattle.fixed_state.specs.Ready.{AreCellsOf}
+use Rattle.job_board.specs.Ledger.{AreCellsOf, cube, only_query}
 use Rattle.job_board.specs.BoardModel.{IsAdded, IsSame, BoardModel, next_query, now}
 use Rattle.job_board.specs.declared.answers.QueryWork.{QueryWork}
 use Rattle.plain_answer.specs.declared.ask.Ask.{Ask as Query}
@@ -30,25 +28,23 @@ use Rattle.coordinator.specs.Coordinator.{AreNotInFlight, IsGrown, IsIdle, IsSou
 use Rattle.coordinator.specs.Runs.{IsOverNone}
 use Rattle.coordinator.specs.Served.{rows_at, served}
 use Rattle.coordinator.specs.ExecutedLines.{IsQuery}
-use Rattle.coordinator.specs.Tasks.{HasTasks}
 use Rattle.coordinator.proofs.Boards.{entries-grown, grown-added, grown-same, grown-then, now-grown, trusted-grown}
-use Rattle.coordinator.proofs.NextTasks.{tasks-command, tasks-query_ended, tasks-query_taken}
 use Rattle.coordinator.proofs.Tells.{TellsLine}
 use Rattle.coordinator.proofs.Scripts.{command_found}
 
 -- the query as it waits
 abbrev pub waiting_now : World Query → ℕ → ℕ → Waiting Query
-waiting_now w line session = record { line = line; session = session; query = by_first; at_command = number w }
+waiting_now w line session = record { line = line; session = session; query = only_query; at_command = number w }
 
 abbrev pub asked_now : World Query → ℕ → ℕ → Asked Query
 asked_now w line session = record { waiting = waiting_now w line session; at_take = number w }
 
 -- the worlds after its command, its taking and its end
 abbrev pub accepted_world : World Query → ℕ → ℕ → World Query
-accepted_world w line session = step fixed w (Takes line (Ask session by_first))
+accepted_world w line session = step cube w (Takes line (Ask session only_query))
 
 abbrev pub taken_world : World Query → ℕ → ℕ → World Query
-taken_world w line session = step fixed (accepted_world w line session) (QueryTakes line)
+taken_world w line session = step cube (accepted_world w line session) (QueryTakes line)
 
 get_end : {X : Type 0} (xs : List X) (x : X) → slice_get (xs ++ x ∷ []) (length xs) ≡ Some x
 get_end [] x = refl
@@ -111,7 +107,7 @@ module _ (w : World Query) (line session : ℕ) (i : IsIdle w) where
   same_sets : ((taken_world w line session).past ≡ w.past) × ((taken_world w line session).ready ≡ w.ready)
   same_sets = (ap (λ (x : World Query). x.past) taken_is, ap (λ (x : World Query). x.ready) taken_is)
 
-  ended_is : (out : QueryOut) → step fixed (taken_world w line session) (QueryEnds line out) ≡ query_ended (taken_world w line session) line out (Some (asked_now w line session))
+  ended_is : (out : QueryOut) → step cube (taken_world w line session) (QueryEnds line out) ≡ query_ended (taken_world w line session) line out (Some (asked_now w line session))
   ended_is out = ap (query_ended (taken_world w line session) line out) found_asked
 
   answers_ended : (out : QueryOut) → IsOutAt w out → (before : ℕ → ℕ) → ((other : ℕ) → before other ≤ number w) → (other : ℕ) → answered_as out session before other ≤ number w
@@ -121,7 +117,7 @@ module _ (w : World Query) (line session : ℕ) (i : IsIdle w) where
     split true = omega (arith, h)
     split false = k other
 
-  pub idle_ended : (out : QueryOut) → IsOutAt w out → IsIdle (step fixed (taken_world w line session) (QueryEnds line out))
+  pub idle_ended : (out : QueryOut) → IsOutAt w out → IsIdle (step cube (taken_world w line session) (QueryEnds line out))
   idle_ended out h = subst IsIdle (sym (ended_is out)) (record {
     workers = subst (λ (x : World Query). 0 < x.workers) (sym taken_is) i.workers;
     answers = subst (λ (x : World Query). (other : ℕ) → answered_as out session x.answered other ≤ number x) (sym taken_is) (answers_ended out h w.answered i.answers);
@@ -133,13 +129,7 @@ module _ (w : World Query) (line session : ℕ) (i : IsIdle w) where
     not_in_flight = subst (λ (x : World Query). AreNotInFlight x.jobs) (sym taken_is) i.not_in_flight;
   })
 
-  -- a query changes no job
-  pub tasks_ended : (out : QueryOut) (products : List (List (List ℕ))) → HasTasks w products → HasTasks (step fixed (taken_world w line session) (QueryEnds line out)) products
-  tasks_ended out products h =
-      tasks-query_ended (taken_world w line session) products
-      (tasks-query_taken (accepted_world w line session) products (tasks-command w products h line (Ask session by_first) tt) line) line out
-
-  pub line_ended : (out : QueryOut) → (step fixed (taken_world w line session) (QueryEnds line out)).line ≡ line
+  pub line_ended : (out : QueryOut) → (step cube (taken_world w line session) (QueryEnds line out)).line ≡ line
   line_ended out = ap (λ (x : World Query). x.line) (ended_is out) ∙ ap (λ (x : World Query). x.line) taken_is
 
   -- the version of the last set is lawful at its end
@@ -157,17 +147,17 @@ module _ (w : World Query) (line session : ℕ) (i : IsIdle w) where
   set_now = ap (λ (x : World Query). set_at x (number w)) taken_is ∙ ap (λ (o : Option ReadySet). unwrap_or o []) (get_end w.past w.ready)
 
   none_there : (honest : Type 0) (version : ℕ) (out : QueryOut) → set_at (taken_world w line session) version ≡ w.ready → out ≡ Answered version
-      → honest ⊎ Along fixed IsOverNone w (asked_turns line session ++ QueryEnds line (Answered version) ∷ []) → honest ⊎ (w.ready ≡ [])
+      → honest ⊎ Along cube IsOverNone w (asked_turns line session ++ QueryEnds line (Answered version) ∷ []) → honest ⊎ (w.ready ≡ [])
   none_there honest version out set e (inl h) = inl h
   none_there honest version out set e (inr h) = inr (sym set ∙ h.1.1.0)
 
   pub answer_is : (honest : Type 0) (out : QueryOut) (said : Block) → IsAnswerOver honest w out said
-      → honest ⊎ Along fixed IsOverNone w (asked_turns line session ++ QueryEnds line out ∷ [])
+      → honest ⊎ Along cube IsOverNone w (asked_turns line session ++ QueryEnds line out ∷ [])
       → answer_block served (taken_world w line session) (asked_now w line session) out ≡ said
   answer_is honest NoAnswer said a t = sym a
   answer_is honest (Answered version) said a t =
       let set : set_at (taken_world w line session) version ≡ w.ready = ap (set_at (taken_world w line session)) a.0 ∙ set_now in
-      ap (λ (s : ReadySet). block.Answer (fixed.answer by_first (rows_of fixed s))) set
+      ap (λ (s : ReadySet). block.Answer (cube.answer only_query (rows_of cube s))) set
       ∙ sym (a.1 (none_there honest version (Answered version) set refl t))
 
   pub entries_query : (script : List Line) (entries : List Entry) (out : QueryOut) → AreTold entries
@@ -179,9 +169,9 @@ module _ (w : World Query) (line session : ℕ) (i : IsIdle w) where
 
 -- ---- the calls of a query
 
-module _ (old mid : BoardModel) (line session : ℕ) (i : IsIdle (now old)) (a : IsAdded old (Takes line (Ask session by_first)) mid) where
+module _ (old mid : BoardModel) (line session : ℕ) (i : IsIdle (now old)) (a : IsAdded old (Takes line (Ask session only_query)) mid) where
   now_accepted : now mid ≡ accepted_world (now old) line session
-  now_accepted = now-grown old mid (Takes line (Ask session by_first) ∷ []) (grown-added old (Takes line (Ask session by_first)) mid a)
+  now_accepted = now-grown old mid (Takes line (Ask session only_query) ∷ []) (grown-added old (Takes line (Ask session only_query)) mid a)
 
   free : busy (accepted_world (now old) line session) < (accepted_world (now old) line session).workers
   free = omega (arith, i.workers, ap length i.steps, ap length i.asked)
@@ -198,7 +188,7 @@ module _ (old mid : BoardModel) (line session : ℕ) (i : IsIdle (now old)) (a :
     now_taken : now later ≡ taken_world (now old) line session
     now_taken =
         now-grown mid later (QueryTakes line ∷ []) (grown-added mid (QueryTakes line) later t)
-        ∙ ap (λ (w : World Query). step fixed w (QueryTakes line)) now_accepted
+        ∙ ap (λ (w : World Query). step cube w (QueryTakes line)) now_accepted
 
     version_now : (honest : Type 0) (work : QueryWork) → IsTakenQuery honest (now mid) line work → work.version ≡ number (now old)
     version_now honest work k = k.version ∙ ap number now_accepted
@@ -228,18 +218,18 @@ module _ (old mid : BoardModel) (line session : ℕ) (i : IsIdle (now old)) (a :
         grown-then old later new (asked_turns line session) (QueryEnds line out ∷ []) grown_taken (grown-added later (QueryEnds line out) new e) where
           grown_taken : IsGrown old (asked_turns line session) later
           grown_taken =
-              grown-then old mid later (Takes line (Ask session by_first) ∷ []) (QueryTakes line ∷ []) (grown-added old (Takes line (Ask session by_first)) mid a)
+              grown-then old mid later (Takes line (Ask session only_query) ∷ []) (QueryTakes line ∷ []) (grown-added old (Takes line (Ask session only_query)) mid a)
               (grown-added mid (QueryTakes line) later t)
 
     pub part_taken : (new : BoardModel) → IsSame later new → (count : ℕ) × IsGrown old (take count (asked_turns line session)) new
     part_taken new e = (
       2,
-      grown-then old mid new (Takes line (Ask session by_first) ∷ []) (QueryTakes line ∷ []) (grown-added old (Takes line (Ask session by_first)) mid a)
+      grown-then old mid new (Takes line (Ask session only_query) ∷ []) (QueryTakes line ∷ []) (grown-added old (Takes line (Ask session only_query)) mid a)
           (grown-then mid later new (QueryTakes line ∷ []) [] (grown-added mid (QueryTakes line) later t) (grown-same later new e)),
     )
 
   pub part_accepted : (new : BoardModel) → IsSame mid new → (count : ℕ) × IsGrown old (take count (asked_turns line session)) new
-  part_accepted new e = (1, grown-then old mid new (Takes line (Ask session by_first) ∷ []) [] (grown-added old (Takes line (Ask session by_first)) mid a) (grown-same mid new e))
+  part_accepted new e = (1, grown-then old mid new (Takes line (Ask session only_query) ∷ []) [] (grown-added old (Takes line (Ask session only_query)) mid a) (grown-same mid new e))
 
 pub part_none : (old new : BoardModel) (line session : ℕ) → IsSame old new → (count : ℕ) × IsGrown old (take count (asked_turns line session)) new
 part_none old new line session e = (0, grown-same old new e)
@@ -247,10 +237,10 @@ part_none old new line session e = (0, grown-same old new e)
 -- the turns of a query, and what they tell
 module _ (honest : Type 0) (script : List Line) (tables : List LoadedTable) (old : BoardModel) (taken : ℕ) (line : Line) (said : Block) (new : BoardModel)
     (rise : RisesFrom 0 script) (e : slice_get script taken ≡ Some line) (s : IsSound (inputs_in script tables) old taken) (q : IsQuery honest old line said new) where
-  after : now new ≡ step fixed (taken_world (now old) line.number q.session) (QueryEnds line.number q.out)
+  after : now new ≡ step cube (taken_world (now old) line.number q.session) (QueryEnds line.number q.out)
   after = now-grown old new (asked_turns line.number q.session ++ QueryEnds line.number q.out ∷ []) q.grown
 
-  asks : command_at served (inputs_in script tables) line.number ≡ Ask q.session by_first
+  asks : command_at served (inputs_in script tables) line.number ≡ Ask q.session only_query
   asks = command_found script tables taken line rise e ∙ ap (command_of served (rows_at tables line.number)) q.asks
 
   pub tells-query : TellsLine honest script tables old line said (asked_turns line.number q.session ++ QueryEnds line.number q.out ∷ []) new
@@ -262,9 +252,6 @@ module _ (honest : Type 0) (script : List Line) (tables : List LoadedTable) (old
     idle = subst IsIdle (sym after) (idle_ended (now old) line.number q.session s.idle q.out (out_over honest (now old) q.out said q.answer));
     told = answer_block served (taken_world (now old) line.number q.session) (asked_now (now old) line.number q.session) q.out;
     no_stops = refl;
-    tasks = λ h.
-        subst (HasTasks (now new)) (sym q.products)
-        (subst (λ (w : World Query). HasTasks w old.products) (sym after) (tasks_ended (now old) line.number q.session s.idle q.out old.products h));
     entries =
         entries-grown old new (asked_turns line.number q.session ++ QueryEnds line.number q.out ∷ []) q.grown script
         ∙ entries_query (now old) line.number q.session s.idle script (entries_in script old) q.out s.all_told;

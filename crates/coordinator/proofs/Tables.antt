@@ -5,7 +5,6 @@ use Rattle.std.specs.Arc.{arc_value}
 use Rattle.std.specs.List.{AllByRecursion}
 use Rattle.std.specs.Str.{bytes_eq}
 use Rattle.std.proofs.lemmas.List.Elements.{recursion_from_All}
-use Rattle.fixed_cube.specs.Columns.{fact_columns, row_limit}
 use Rattle.run_history.specs.Commands.Command.{Load}
 use Rattle.run_history.specs.Cubes.{Rows}
 use Rattle.run_inputs.specs.Inputs.{HasFittingRows}
@@ -13,9 +12,9 @@ use Rattle.run_inputs.specs.declared.inputs.LoadedTable.{LoadedTable}
 use Rattle.run_transcript.specs.Served.{command_of}
 use Rattle.script_text.specs.declared.verb.Verb.{Verb}
 use Rattle.script_text.specs.declared.verb.Verb.TheVariants as verb
-use Rattle.step_fields.specs.Fits.{FitsRows}
 use Rattle.coordinator.specs.Coordinator.{load_of}
 use Rattle.coordinator.specs.Served.{rows_at, served}
+use Rattle.job_board.specs.Ledger.{FitsTable}
 use Rattle.coordinator.specs.declared.loads.SharedLoad.{SharedLoad}
 
 find_cut : (b : Bool) (load : SharedLoad) (tables : Option LoadedTable) (loads : Option SharedLoad) → tables ≡ option_map load_of loads
@@ -33,18 +32,18 @@ pub rows_found : (number : ℕ) (loads : List SharedLoad) (load : SharedLoad) �
 rows_found number loads load e =
     ap (λ (o : Option LoadedTable). unwrap_or (option_map (λ (table : LoadedTable). table.rows) o) []) (found_load number loads ∙ ap (option_map load_of) e)
 
-fits_cut : (b : Bool) (first load : SharedLoad) (rest : Option SharedLoad) → FitsRows fact_columns row_limit (arc_value first.rows)
-    → (rest ≡ Some load → FitsRows fact_columns row_limit (arc_value load.rows)) → cond b (Some first) rest ≡ Some load → FitsRows fact_columns row_limit (arc_value load.rows)
-fits_cut true first load rest h k e = let same : first ≡ load = cc in subst (λ (l : SharedLoad). FitsRows fact_columns row_limit (arc_value l.rows)) same h
+fits_cut : (b : Bool) (first load : SharedLoad) (rest : Option SharedLoad) → FitsTable (arc_value first.rows)
+    → (rest ≡ Some load → FitsTable (arc_value load.rows)) → cond b (Some first) rest ≡ Some load → FitsTable (arc_value load.rows)
+fits_cut true first load rest h k e = let same : first ≡ load = cc in subst (λ (l : SharedLoad). FitsTable (arc_value l.rows)) same h
 fits_cut false first load rest h k e = k e
 
 fits_in : (number : ℕ) (loads : List SharedLoad) (load : SharedLoad) → AllByRecursion HasFittingRows (map load_of loads) → find (λ load. load.line == number) loads ≡ Some load
-    → FitsRows fact_columns row_limit (arc_value load.rows)
+    → FitsTable (arc_value load.rows)
 fits_in number [] load h e = cc
 fits_in number (first ∷ loads) load h e = fits_cut (first.line == number) first load (find (λ l. l.line == number) loads) h.0 (fits_in number loads load h.1) e
 
 pub fits_found : (number : ℕ) (loads : List SharedLoad) (load : SharedLoad) → All HasFittingRows (map load_of loads) → find (λ load. load.line == number) loads ≡ Some load
-    → FitsRows fact_columns row_limit (arc_value load.rows)
+    → FitsTable (arc_value load.rows)
 fits_found number loads load h e = fits_in number loads load (recursion_from_All HasFittingRows (map load_of loads) h) e
 
 -- a load that is there is found

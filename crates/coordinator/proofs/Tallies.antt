@@ -2,10 +2,10 @@
 use Rattle.std.proofs.Common.{◌≡◌, ℕ, ◌+◌, Bool, cond, List, [], ◌∷◌, map, refl, sym, ap, ◌∙◌}
 use Rattle.std.specs.Prelude.{count_by}
 use Rattle.std.proofs.lemmas.List.Sums.{sum_by-cons}
-use Rattle.fixed_state.specs.States.{FixedEntry, rows_seen}
 use Rattle.run_state.specs.States.{submitted_of}
 use Rattle.run_history.specs.World.{Submitted}
 use Rattle.run_transcript.specs.Entries.{is_discarded, is_finished, is_in_error, is_stopped, tally_of}
+use Rattle.job_board.specs.Ledger.{BoardJob, rows_seen}
 use Rattle.script_text.specs.declared.block.Tally.{Tally}
 
 -- a count over images
@@ -19,9 +19,9 @@ abbrev made : ℕ → ℕ → ℕ → ℕ → Tally
 made finished error stopped discarded = record { finished = finished; error = error; stopped = stopped; discarded = discarded }
 
 -- the four counts are the tally
-pub tally_is : (jobs : List FixedEntry) (finished error stopped discarded : ℕ) → finished ≡ count_by (λ (entry : FixedEntry). is_finished entry.job.state) jobs
-    → error ≡ count_by (λ (entry : FixedEntry). is_in_error entry.job.state) jobs → stopped ≡ count_by (λ (entry : FixedEntry). is_stopped entry.job.state) jobs
-    → discarded ≡ count_by (λ (entry : FixedEntry). is_discarded entry.job.state) jobs
+pub tally_is : (jobs : List BoardJob) (finished error stopped discarded : ℕ) → finished ≡ count_by (λ (entry : BoardJob). is_finished entry.job.state) jobs
+    → error ≡ count_by (λ (entry : BoardJob). is_in_error entry.job.state) jobs → stopped ≡ count_by (λ (entry : BoardJob). is_stopped entry.job.state) jobs
+    → discarded ≡ count_by (λ (entry : BoardJob). is_discarded entry.job.state) jobs
     → made finished error stopped discarded ≡ tally_of (map (submitted_of rows_seen) jobs)
 tally_is jobs finished error stopped discarded f e s d =
     ap (λ (n : ℕ). made n error stopped discarded) (f ∙ sym (count_map (λ (s : Submitted). is_finished s.job.state) (submitted_of rows_seen) jobs))

@@ -1,7 +1,7 @@
 -- A line that was taken: what the coordinator keeps, and what is told.
 use Rattle.std.proofs.Common.{◌≡◌, ℕ, ◌+◌, Option, Some, List, [], ◌∷◌, ◌++◌, map, drop, slice_get, refl, sym, ap, ◌∙◌, subst, arith}
 use Rattle.std.proofs.lemmas.Option.{slice_get_within}
-use Rattle.fixed_cube.specs.Cube.{fixed}
+use Rattle.job_board.specs.Ledger.{cube}
 use Rattle.job_board.specs.BoardModel.{BoardModel, now, turns}
 use Rattle.plain_answer.specs.declared.ask.Ask.{Ask as Query}
 use Rattle.run_history.specs.Commands.{Command, Turn, event_of}
@@ -21,12 +21,10 @@ use Rattle.script_text.specs.declared.verb.Verb.{Verb}
 use Rattle.coordinator.specs.Coordinator.{IsGrown, IsIdle, IsSound, RisesFrom, entries_in, inputs_in}
 use Rattle.coordinator.specs.Runs.{AreTrusted}
 use Rattle.coordinator.specs.Served.{rows_at, served}
-use Rattle.coordinator.specs.Stops.{stops_along}
+use Rattle.flight_laws.specs.Stops.{stops_along}
 use Rattle.coordinator.specs.ExecutedLines.{IsCommand}
-use Rattle.coordinator.specs.Tasks.{HasTasks, HasTasksIn, products_taken}
 use Rattle.coordinator.proofs.Boards.{entries-grown, grown-added, lines-grown, named-grown, no-stops-command, no-stops-grown, now-grown}
 use Rattle.coordinator.proofs.Idle.{idle-command, line-command, no_ask}
-use Rattle.coordinator.proofs.NextTasks.{tasks-command}
 use Rattle.coordinator.proofs.Scripts.{command_found, rest_more, taken_more, verb_found}
 
 told_push : (entries : List Entry) (line : ℕ) (said : Block) → AreTold entries → AreTold (entries ++ Told line said ∷ [])
@@ -42,8 +40,7 @@ pub record TellsLine (honest : Type 0) (script : List Line) (tables : List Loade
   pub lines : lines_taken (map event_of later) ≡ line.number ∷ []
   pub last : (now new).line ≡ line.number
   pub idle : IsIdle (now new)
-  pub no_stops : stops_along fixed (now old) later ≡ []
-  pub tasks : HasTasksIn old → HasTasksIn new
+  pub no_stops : stops_along cube (now old) later ≡ []
   pub told : Block
   pub entries : entries_in script new ≡ entries_in script old ++ Told line.number told ∷ []
   pub trusted : AreTrusted honest new.workers (turns new) → told ≡ said
@@ -57,6 +54,7 @@ module _ (honest : Type 0) (script : List Line) (tables : List LoadedTable) (old
   sound-line = record {
     within = omega (arith, slice_get_within script taken line e);
     workers = t.grown.workers ∙ s.workers;
+    ready = s.ready;
     named = named-grown old new later t.grown (inputs_in script tables) s.named t.named;
     in_order =
         lines-grown old new later t.grown
@@ -65,7 +63,6 @@ module _ (honest : Type 0) (script : List Line) (tables : List LoadedTable) (old
     later = subst (λ (n : ℕ). RisesFrom n (drop (taken + 1) script)) (sym t.last) rises;
     idle = t.idle;
     no_stops = no-stops-grown old new later t.grown t.no_stops s.no_stops;
-    tasks = t.tasks s.tasks;
     all_told = subst AreTold (sym t.entries) (told_push (entries_in script old) line.number t.told s.all_told);
   }
 
@@ -92,10 +89,6 @@ module _ (honest : Type 0) (script : List Line) (tables : List LoadedTable) (old
         idle = subst IsIdle (sym after)
             (idle-command (now old) line.number (command_of served (rows_at tables line.number) line.verb) (no_ask (rows_at tables line.number) line.verb c.no_query) idle);
         no_stops = no-stops-command (now old) line.number (command_of served (rows_at tables line.number) line.verb) idle.not_in_flight;
-        tasks = λ h.
-            subst (HasTasks (now new)) (sym c.products)
-            (subst (λ (w : World Query). HasTasks w (products_taken (now old) (command_of served (rows_at tables line.number) line.verb) old.products)) (sym after)
-            (tasks-command (now old) old.products h line.number (command_of served (rows_at tables line.number) line.verb) c.fits));
         told = said;
         entries =
             entries-grown old new (Takes line.number (command_of served (rows_at tables line.number) line.verb) ∷ []) g script

@@ -2,7 +2,7 @@
 use Rattle.std.proofs.Common.{◌≡◌, ◌≢◌, ℕ, Bool, true, ◌&&◌, ◌==◌, Option, List, [], ◌++◌, length, map, take, sym, ap, ◌∙◌, subst, inl, inr, arith}
 use Rattle.std.specs.Io.KnownBytes.{append_known}
 use Rattle.std.proofs.lemmas.List.{length-map, length-take-le}
-use Rattle.fixed_cube.specs.Cube.{fixed}
+use Rattle.job_board.specs.Ledger.{cube}
 use Rattle.job_board.specs.BoardModel.{BoardModel, now, turns}
 use Rattle.outside.specs.Written.{AppendsPart}
 use Rattle.plain_answer.specs.declared.ask.Ask.{Ask as Query}
@@ -11,6 +11,7 @@ use Rattle.run_history.specs.Commands.{Turn, event_of}
 use Rattle.run_history.specs.Histories as histories
 use Rattle.run_history.specs.Histories.{Along, is_settled}
 use Rattle.run_history.specs.Invariants.{HasSteps, ranges_of}
+use Rattle.run_history.specs.Sets.{ReadySet}
 use Rattle.run_history.specs.Steps.{world}
 use Rattle.run_history.specs.World.{World, set_at, start}
 use Rattle.run_history.specs.declared.event.Event.{Event}
@@ -26,44 +27,49 @@ use Rattle.coordinator.specs.Runs.{AreTrusted, IsOverNone, IsRunOver}
 use Rattle.coordinator.specs.Served.{served}
 use Rattle.coordinator.proofs.Written.{all_then, part_more, part_then}
 
-has_steps : HasSteps fixed
+has_steps : HasSteps cube
 has_steps kind = omega arith
 
 -- ---- the events of a board, over its inputs
 
 module _ (inputs : Inputs) (board : BoardModel) (f : IsFront inputs board) where
   pub world-is : world_of served inputs (map event_of (turns board)) ≡ now board
-  world-is = ap (world fixed inputs.workers []) f.named ∙ ap (λ (n : ℕ). world fixed n [] (turns board)) (sym f.workers)
+  world-is =
+      ap (λ (set : ReadySet). world cube inputs.workers set (turns_of served inputs (map event_of (turns board)))) f.ready
+      ∙ (ap (world cube inputs.workers []) f.named ∙ ap (λ (n : ℕ). world cube n [] (turns board)) (sym f.workers))
 
   pub entries-are : entries_of served inputs (map event_of (turns board)) ≡ entries_in inputs.script board
   entries-are =
-      ap (entries_along served inputs.script (start inputs.workers (length fixed.tables) []) []) f.named
-      ∙ ap (λ (n : ℕ). entries_along served inputs.script (start n (length fixed.tables) []) [] (turns board)) (sym f.workers)
+      ap (λ (set : ReadySet). entries_along served inputs.script (start inputs.workers (length cube.tables) set) [] (turns_of served inputs (map event_of (turns board)))) f.ready
+      ∙ (ap (entries_along served inputs.script (start inputs.workers (length cube.tables) []) []) f.named
+      ∙ ap (λ (n : ℕ). entries_along served inputs.script (start n (length cube.tables) []) [] (turns board)) (sym f.workers))
 
-  pub legal-is : histories.IsLegal fixed board.workers [] (turns board) → IsLegal served inputs (map event_of (turns board))
+  pub legal-is : histories.IsLegal cube board.workers [] (turns board) → IsLegal served inputs (map event_of (turns board))
   legal-is h = record {
     later = f.later;
     in_order = f.in_order;
     allowed =
-        subst (λ (ts : List (Turn Query)). histories.IsLegal fixed inputs.workers [] ts) (sym f.named)
-        (subst (λ (n : ℕ). histories.IsLegal fixed n [] (turns board)) f.workers h);
+        subst (λ (set : ReadySet). histories.IsLegal cube inputs.workers set (turns_of served inputs (map event_of (turns board)))) (sym f.ready)
+        (subst (λ (ts : List (Turn Query)). histories.IsLegal cube inputs.workers [] ts) (sym f.named)
+        (subst (λ (n : ℕ). histories.IsLegal cube n [] (turns board)) f.workers h));
   }
 
-  pub fresh-is : histories.HasFreshAnswers fixed board.workers [] (turns board) → IsFresh served inputs (map event_of (turns board))
+  pub fresh-is : histories.HasFreshAnswers cube board.workers [] (turns board) → IsFresh served inputs (map event_of (turns board))
   fresh-is h =
-      subst (λ (ts : List (Turn Query)). histories.HasFreshAnswers fixed inputs.workers [] ts) (sym f.named)
-      (subst (λ (n : ℕ). histories.HasFreshAnswers fixed n [] (turns board)) f.workers h)
+      subst (λ (set : ReadySet). histories.HasFreshAnswers cube inputs.workers set (turns_of served inputs (map event_of (turns board)))) (sym f.ready)
+      (subst (λ (ts : List (Turn Query)). histories.HasFreshAnswers cube inputs.workers [] ts) (sym f.named)
+      (subst (λ (n : ℕ). histories.HasFreshAnswers cube n [] (turns board)) f.workers h))
 
-  pub apart-is : histories.IsLegal fixed board.workers [] (turns board) → (version : ℕ) → IsApart (ranges_of (set_at (world_of served inputs (map event_of (turns board))) version))
+  pub apart-is : histories.IsLegal cube board.workers [] (turns board) → (version : ℕ) → IsApart (ranges_of (set_at (world_of served inputs (map event_of (turns board))) version))
   apart-is h version =
-      let sound = sound_world fixed has_steps board.workers [] (turns board) empty_starts h in
+      let sound = sound_world cube has_steps board.workers [] (turns board) empty_starts h in
       subst (λ (w : World Query). IsApart (ranges_of (set_at w version))) (sym world-is) (sound.set_apart version)
 
   pub trusted-is : (honest : Type 0) → AreTrusted honest inputs.workers (turns_of served inputs (map event_of (turns board))) → AreTrusted honest board.workers (turns board)
   trusted-is honest (inl h) = inl h
   trusted-is honest (inr h) = inr (
-      subst (λ (n : ℕ). Along fixed IsOverNone (start n (length fixed.tables) []) (turns board)) (sym f.workers)
-      (subst (λ (ts : List (Turn Query)). Along fixed IsOverNone (start inputs.workers (length fixed.tables) []) ts) f.named h)
+      subst (λ (n : ℕ). Along cube IsOverNone (start n (length cube.tables) []) (turns board)) (sym f.workers)
+      (subst (λ (ts : List (Turn Query)). Along cube IsOverNone (start inputs.workers (length cube.tables) []) ts) f.named h)
       )
 
   -- the transcript is what is told, and the end line where the history is whole
@@ -112,14 +118,14 @@ module _ (inputs : Inputs) (board : BoardModel) (f : IsFront inputs board) where
           part_then before mid written (told_text (entries_in inputs.script board)) (end_text (tally_of (now board).jobs) (length (now board).ready))
           (transcript served inputs (map event_of (turns board))) (h trusted) w transcript-done
 
-    pub whole-is : histories.IsLegal fixed board.workers [] (turns board) → is_done inputs.script taken (now board) ≡ true → IsWhole served inputs (map event_of (turns board))
+    pub whole-is : histories.IsLegal cube board.workers [] (turns board) → is_done inputs.script taken (now board) ≡ true → IsWhole served inputs (map event_of (turns board))
     whole-is h d = record { legal = legal-is h; whole = done-is ∙ d }
 
 -- ---- the whole run
 
 -- the run of a board of which all this is known
 pub run-over : (honest : Type 0) (inputs : Inputs) (board : BoardModel) (taken status : ℕ) (history : List Event) (before written : Option (List ℕ)) → IsFront inputs board
-    → history ≡ map event_of (turns board) → histories.IsLegal fixed board.workers [] (turns board) → histories.HasFreshAnswers fixed board.workers [] (turns board)
+    → history ≡ map event_of (turns board) → histories.IsLegal cube board.workers [] (turns board) → histories.HasFreshAnswers cube board.workers [] (turns board)
     → (status ≡ 0 → IsSound inputs board taken) → (status ≡ 0 → is_done inputs.script taken (now board) ≡ true)
     → (status ≡ 0 → AreTrusted honest board.workers (turns board) → written ≡ append_known before (transcript served inputs (map event_of (turns board))))
     → (status ≢ 0 → AreTrusted honest board.workers (turns board) → AppendsPart before written (transcript served inputs (map event_of (turns board))))

@@ -2,10 +2,8 @@
 use Rattle.std.proofs.Common.{◌≡◌, ℕ, Option, Some, None, Result, Ok, Err, List, [], ◌∷◌, fold, drop, slice_get, refl, sym, ap, ◌∙◌, subst, append-nil}
 use Rattle.std.specs.List.{AllByRecursion}
 use Rattle.std.specs.Prelude.{IfOk, IfSome}
-use Rattle.fixed_cube.specs.Cube.{fixed}
-use Rattle.fixed_cube.specs.Tasks.{IsTask}
-use Rattle.fixed_state.specs.Ends.{Answer, kept_of, products_after}
-use Rattle.job_board.specs.BoardModel.{IsAdded, IsRecordedAs, IsSame, BoardModel, ended_of, now, task_of, turns}
+use Rattle.job_board.specs.Ledger.{IsTask, cube}
+use Rattle.job_board.specs.BoardModel.{IsAdded, IsSame, BoardModel, now, turns}
 use Rattle.job_board.specs.declared.answers.Work.{Work}
 use Rattle.plain_answer.specs.declared.ask.Ask.{Ask as Query}
 use Rattle.run_history.specs.Commands.{Turn}
@@ -18,11 +16,9 @@ use Rattle.run_transcript.specs.Opens.{AreTold}
 use Rattle.run_transcript.specs.Served.{Inputs}
 use Rattle.coordinator.specs.Claims.{IsClaimed, IsStepping}
 use Rattle.coordinator.specs.Coordinator.{IsIdle, IsOfStep, IsSound, IsWorked, RisesFrom}
-use Rattle.coordinator.specs.Tasks.{HasTasks, HasTasksIn, IsOfBytes}
 use Rattle.coordinator.proofs.Boards.{added-same, grown-added, grown-same, grown-then, no-stops-worked, now-grown, now-same, worked-entries, worked-lines, worked-named}
 use Rattle.coordinator.proofs.Ends.{task-claimed}
 use Rattle.coordinator.proofs.Idle.{idle-end, line-claim, line-end, stepping-claim}
-use Rattle.coordinator.proofs.NextTasks.{is-task, tasks-claim, tasks-end}
 
 -- no turn
 pub worked-same : (old new : BoardModel) → IsSame old new → IsWorked old new
@@ -50,7 +46,7 @@ worked-then old mid new w s = record {
 }
 
 -- the world after a claim and after an end
-pub now-claimed : (old new : BoardModel) (job attempt : ℕ) → IsAdded old (Claims job attempt) new → now new ≡ step fixed (now old) (Claims job attempt)
+pub now-claimed : (old new : BoardModel) (job attempt : ℕ) → IsAdded old (Claims job attempt) new → now new ≡ step cube (now old) (Claims job attempt)
 now-claimed old new job attempt a = now-grown old new (Claims job attempt ∷ []) (grown-added old (Claims job attempt) new a)
 
 pub stepping-added : (old new : BoardModel) (job attempt : ℕ) → IsAdded old (Claims job attempt) new → IsNextAttempt (job_of (now old) job) attempt → IsIdle (now old) → IsStepping (now new) job attempt
@@ -62,27 +58,27 @@ idle-ended old new job attempt outcome e s =
     subst IsIdle (sym (now-grown old new (StepEnds job attempt outcome ∷ []) (grown-added old (StepEnds job attempt outcome) new e)))
     (idle-end (now old) job attempt outcome s)
 
-line-steps : (w : World Query) (later : List (Turn Query)) → AllByRecursion IsOfStep later → (fold (step fixed) w later).line ≡ w.line
+line-steps : (w : World Query) (later : List (Turn Query)) → AllByRecursion IsOfStep later → (fold (step cube) w later).line ≡ w.line
 line-steps w [] h = refl
-line-steps w (Claims job attempt ∷ later) h = line-steps (step fixed w (Claims job attempt)) later h.1 ∙ line-claim w job attempt
-line-steps w (StepEnds job attempt outcome ∷ later) h = line-steps (step fixed w (StepEnds job attempt outcome)) later h.1 ∙ line-end w job attempt outcome
+line-steps w (Claims job attempt ∷ later) h = line-steps (step cube w (Claims job attempt)) later h.1 ∙ line-claim w job attempt
+line-steps w (StepEnds job attempt outcome ∷ later) h = line-steps (step cube w (StepEnds job attempt outcome)) later h.1 ∙ line-end w job attempt outcome
 line-steps w (Takes line command ∷ later) h = absurd h.0
 line-steps w (QueryTakes line ∷ later) h = absurd h.0
 line-steps w (QueryEnds line out ∷ later) h = absurd h.0
 
-pub sound-worked : (inputs : Inputs) (old new : BoardModel) (taken : ℕ) → IsWorked old new → IsIdle (now new) → HasTasksIn new → IsSound inputs old taken → IsSound inputs new taken
-sound-worked inputs old new taken w i tasks s =
+pub sound-worked : (inputs : Inputs) (old new : BoardModel) (taken : ℕ) → IsWorked old new → IsIdle (now new) → IsSound inputs old taken → IsSound inputs new taken
+sound-worked inputs old new taken w i s =
     let line : (now new).line ≡ (now old).line = ap (λ (x : World Query). x.line) (now-grown old new w.later w.grown) ∙ line-steps (now old) w.later w.steps in
     record {
       within = s.within;
       workers = w.grown.workers ∙ s.workers;
+      ready = s.ready;
       named = worked-named inputs old new w s.named;
       in_order = worked-lines old new w ∙ s.in_order;
       later = subst (λ (n : ℕ). RisesFrom n (drop taken inputs.script)) (sym line) s.later;
       idle = i;
       all_told = subst AreTold (sym (worked-entries inputs.script old new w)) s.all_told;
       no_stops = no-stops-worked old new w s.no_stops;
-      tasks = tasks;
     }
 
 -- an empty queue has no first job
@@ -92,60 +88,41 @@ no_first (job ∷ queue) e = cc
 
 -- ---- what was claimed
 
--- the jobs have their next tasks after calls that leave the board as it is, after a claim and after an end
-pub tasks-same : (old new : BoardModel) → IsSame old new → HasTasksIn old → HasTasksIn new
-tasks-same old new s h =
-    subst (HasTasks (now new)) (sym s.products) (subst (λ (w : World Query). HasTasks w old.products) (sym (now-same old new s)) h)
-
-pub tasks-claimed : (old new : BoardModel) (job attempt : ℕ) → IsAdded old (Claims job attempt) new → new.products ≡ old.products → HasTasksIn old → HasTasksIn new
-tasks-claimed old new job attempt a p h =
-    subst (HasTasks (now new)) (sym p)
-    (subst (λ (w : World Query). HasTasks w old.products) (sym (now-claimed old new job attempt a)) (tasks-claim (now old) old.products h job attempt))
-
-pub tasks-ended : (old new : BoardModel) (job attempt : ℕ) (answer : Answer) (o : Outcome) → IsAdded old (StepEnds job attempt o) new
-    → new.products ≡ products_after (ended_of (job_of (now old) job) attempt o) job answer old.products
-    → IsOfBytes answer → IsRecordedAs (now old) (job_of (now old) job) (kept_of old.products job) attempt answer o → HasTasksIn old → HasTasksIn new
-tasks-ended old new job attempt answer o a p b r h =
-    subst (HasTasks (now new)) (sym p)
-    (subst (λ (w : World Query). HasTasks w (products_after (ended_of (job_of (now old) job) attempt o) job answer old.products))
-    (sym (now-grown old new (StepEnds job attempt o ∷ []) (grown-added old (StepEnds job attempt o) new a))) (tasks-end (now old) old.products h job attempt answer o b r))
-
 -- the job of a claim is there
 job_there : (found : Option Submitted) (attempt : ℕ) → IsNextAttempt found attempt → (s : Submitted) × (found ≡ Some s)
 job_there None attempt h = absurd h
 job_there (Some s) attempt h = (s, refl)
 
-module _ (honest : Type 0) (old mid new : BoardModel) (same : IsSame old mid) (idle : IsIdle (now old)) (tasks : HasTasksIn old) where
-  claimed-work : (work : Work) → IsAdded mid (Claims work.job work.attempt) new → new.products ≡ mid.products → IsNextAttempt (job_of (now mid) work.job) work.attempt
-      → ((s : Submitted) → job_of (now mid) work.job ≡ Some s → honest → work.task.items ≡ next_task fixed (now mid) s)
-      → ((s : Submitted) → job_of (now mid) work.job ≡ Some s → work.task.items ≡ task_of (now mid) s (kept_of mid.products work.job)) → IsClaimed honest old work new
-  claimed-work work added products attempt task kept =
+module _ (honest : Type 0) (old mid new : BoardModel) (same : IsSame old mid) (idle : IsIdle (now old)) where
+  claimed-work : (work : Work) → IsAdded mid (Claims work.job work.attempt) new → IsNextAttempt (job_of (now mid) work.job) work.attempt
+      → ((s : Submitted) → job_of (now mid) work.job ≡ Some s → honest → work.task.items ≡ next_task cube (now mid) s)
+      → IsTask work.task.items → IsClaimed honest old work new
+  claimed-work work added attempt task is_task =
       let found = job_there (job_of (now mid) work.job) work.attempt attempt in
       record {
         added = added-same old mid (Claims work.job work.attempt) new same added;
-        products = products ∙ same.products;
         job = found.0;
         there = subst (λ (w : World Query). job_of w work.job ≡ Some found.0) (now-same old mid same) found.1;
-        task = λ h. subst (λ (w : World Query). work.task.items ≡ next_task fixed w found.0) (now-same old mid same) (task found.0 found.1 h);
+        task = λ h. subst (λ (w : World Query). work.task.items ≡ next_task cube w found.0) (now-same old mid same) (task found.0 found.1 h);
         work_of = record {
           stepping = stepping-added mid new work.job work.attempt added attempt (subst IsIdle (sym (now-same old mid same)) idle);
           task = λ h. task-claimed (now mid) (now new) work.job work.attempt work.task.items (now-claimed mid new work.job work.attempt added) attempt (λ s e. task s e h);
-          is_task = subst IsTask (sym (kept found.0 found.1)) (is-task (now mid) mid.products work.job found.0 (tasks-same old mid same tasks) found.1);
+          is_task = is_task;
         };
       }
 
-  claimed-found : (found : Option Work) → IfSome found (λ work. IsAdded mid (Claims work.job work.attempt) new) → new.products ≡ mid.products
+  claimed-found : (found : Option Work) → IfSome found (λ work. IsAdded mid (Claims work.job work.attempt) new)
       → IfSome found (λ work. IsNextAttempt (job_of (now mid) work.job) work.attempt)
-      → IfSome found (λ work. (s : Submitted) → job_of (now mid) work.job ≡ Some s → honest → work.task.items ≡ next_task fixed (now mid) s)
-      → IfSome found (λ work. (s : Submitted) → job_of (now mid) work.job ≡ Some s → work.task.items ≡ task_of (now mid) s (kept_of mid.products work.job))
+      → IfSome found (λ work. (s : Submitted) → job_of (now mid) work.job ≡ Some s → honest → work.task.items ≡ next_task cube (now mid) s)
+      → IfSome found (λ work. IsTask work.task.items)
       → IfSome found (λ work. IsClaimed honest old work new)
-  claimed-found None added products attempt task kept = tt
-  claimed-found (Some work) added products attempt task kept = claimed-work work added products attempt task kept
+  claimed-found None added attempt task is_task = tt
+  claimed-found (Some work) added attempt task is_task = claimed-work work added attempt task is_task
 
-  pub claimed-step : {E : Type 0} (claimed : Result (Option Work) E) → IfOk claimed (λ found. IfSome found (λ work. IsAdded mid (Claims work.job work.attempt) new)) → new.products ≡ mid.products
+  pub claimed-step : {E : Type 0} (claimed : Result (Option Work) E) → IfOk claimed (λ found. IfSome found (λ work. IsAdded mid (Claims work.job work.attempt) new))
       → IfOk claimed (λ found. IfSome found (λ work. IsNextAttempt (job_of (now mid) work.job) work.attempt))
-      → IfOk claimed (λ found. IfSome found (λ work. (s : Submitted) → job_of (now mid) work.job ≡ Some s → honest → work.task.items ≡ next_task fixed (now mid) s))
-      → IfOk claimed (λ found. IfSome found (λ work. (s : Submitted) → job_of (now mid) work.job ≡ Some s → work.task.items ≡ task_of (now mid) s (kept_of mid.products work.job)))
+      → IfOk claimed (λ found. IfSome found (λ work. (s : Submitted) → job_of (now mid) work.job ≡ Some s → honest → work.task.items ≡ next_task cube (now mid) s))
+      → IfOk claimed (λ found. IfSome found (λ work. IsTask work.task.items))
       → IfOk claimed (λ found. IfSome found (λ work. IsClaimed honest old work new))
-  claimed-step (Ok found) added products attempt task kept = claimed-found found added products attempt task kept
-  claimed-step (Err e) added products attempt task kept = tt
+  claimed-step (Ok found) added attempt task is_task = claimed-found found added attempt task is_task
+  claimed-step (Err e) added attempt task is_task = tt

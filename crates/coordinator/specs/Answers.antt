@@ -1,8 +1,6 @@
 -- Queries from their commands to their answers.
 use Rattle.std.specs.Prelude.{◌≡◌, ◌<◌, ◌⊎◌, ℕ, [], Some}
-use Rattle.fixed_cube.specs.Answers.{by_first}
-use Rattle.fixed_cube.specs.Cube.{fixed}
-use Rattle.fixed_state.specs.Ready.{AreCellsOf}
+use Rattle.job_board.specs.Ledger.{AreCellsOf, cube, only_query}
 use Rattle.job_board.specs.BoardModel.{next_query}
 use Rattle.job_board.specs.declared.answers.QueryWork.{QueryWork}
 use Rattle.plain_answer.specs.declared.ask.Ask.{Ask}
@@ -36,12 +34,12 @@ pub record CanEnd (w : World Ask) (line version : ℕ) : Type 0 where
 -- the end of a query that was taken, and its block: the answer over every set of which the cells are, or none
 abbrev pub IsAnswerOf : QueryWork → QueryOut → Block → Type 0
 IsAnswerOf work (Answered version) said =
-    (version ≡ work.version) × ((set : ReadySet) → AreCellsOf set work.cells → said ≡ block.Answer (fixed.answer by_first (rows_of fixed set)))
+    (version ≡ work.version) × ((set : ReadySet) → AreCellsOf set work.cells → said ≡ block.Answer (cube.answer only_query (rows_of cube set)))
 IsAnswerOf work NoAnswer said = said ≡ block.OutOfMemory
 
 -- a query ended so in a world: with the answer over the last ready set, where hands are honest or the set has no segment; or without an
 -- answer
 abbrev pub IsAnswerOver : Type 0 → World Ask → QueryOut → Block → Type 0
 IsAnswerOver honest w (Answered version) said =
-    (version ≡ number w) × (honest ⊎ (w.ready ≡ []) → said ≡ block.Answer (fixed.answer by_first (rows_of fixed w.ready)))
+    (version ≡ number w) × (honest ⊎ (w.ready ≡ []) → said ≡ block.Answer (cube.answer only_query (rows_of cube w.ready)))
 IsAnswerOver honest w NoAnswer said = said ≡ block.OutOfMemory

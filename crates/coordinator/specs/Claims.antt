@@ -1,7 +1,6 @@
 -- A step between its claim and its end.
 use Rattle.std.specs.Prelude.{◌≡◌, ◌<◌, ◌≤◌, ◌∷◌, [], ℕ, List, Some, true}
-use Rattle.fixed_cube.specs.Cube.{fixed}
-use Rattle.fixed_cube.specs.Tasks.{IsTask}
+use Rattle.job_board.specs.Ledger.{IsTask, cube}
 use Rattle.job_board.specs.BoardModel.{IsAdded, BoardModel, now}
 use Rattle.job_board.specs.declared.answers.Work.{Work}
 use Rattle.job_machine.specs.Job.{is_current}
@@ -26,14 +25,13 @@ pub record IsStepping (w : World Ask) (job attempt : ℕ) : Type 0 where
 -- the work's task is a task, and where hands are honest it is that of the next step of its job
 pub record IsWorkOf (honest : Type 0) (w : World Ask) (work : Work) : Type 0 where
   pub stepping : IsStepping w work.job work.attempt
-  pub task : honest → (s : Submitted) → job_of w work.job ≡ Some s → work.task.items ≡ next_task fixed w s
+  pub task : honest → (s : Submitted) → job_of w work.job ≡ Some s → work.task.items ≡ next_task cube w s
   pub is_task : IsTask work.task.items
 
 -- a step was claimed, of a job that is there
 pub record IsClaimed (honest : Type 0) (old : BoardModel) (work : Work) (new : BoardModel) : Type 0 where
   pub added : IsAdded old (Claims work.job work.attempt) new
-  pub products : new.products ≡ old.products
   pub job : Submitted
   pub there : job_of (now old) work.job ≡ Some job
-  pub task : honest → work.task.items ≡ next_task fixed (now old) job
+  pub task : honest → work.task.items ≡ next_task cube (now old) job
   pub work_of : IsWorkOf honest (now new) work

@@ -4,8 +4,7 @@ use Rattle.std.specs.Arc.{arc_value}
 use Rattle.std.specs.Io.KnownBytes.{append_known}
 use Rattle.std.specs.List.{AllByRecursion}
 use Rattle.std.specs.Str.{bytes_eq}
-use Rattle.fixed_cube.specs.Answers.{by_first}
-use Rattle.fixed_cube.specs.Cube.{fixed}
+use Rattle.job_board.specs.Ledger.{cube, only_query}
 use Rattle.job_board.specs.BoardModel.{BoardModel, now, turns}
 use Rattle.outside.specs.Rises.{Risen}
 use Rattle.outside.specs.Written.{AppendsPart}
@@ -26,10 +25,10 @@ use Rattle.run_transcript.specs.Served.{Inputs}
 use Rattle.script_text.specs.declared.verb.Line.{Line}
 use Rattle.script_text.specs.declared.verb.Verb.{Verb}
 use Rattle.script_text.specs.declared.verb.Verb.TheVariants as verb
-use Rattle.coordinator.specs.Runs.{AreTrusted, fault_ends, run_ends}
+use Rattle.coordinator.specs.Runs.{AreTrusted}
+use Rattle.step_outcomes.specs.Ends.{fault_ends, run_ends}
 use Rattle.coordinator.specs.Served.{inputs_of, served}
-use Rattle.coordinator.specs.Stops.{stops_along}
-use Rattle.coordinator.specs.Tasks.{HasTasksIn}
+use Rattle.flight_laws.specs.Stops.{stops_along}
 use Rattle.coordinator.specs.declared.loads.SharedLoad.{SharedLoad}
 
 -- ---- what the coordinator was given
@@ -46,7 +45,7 @@ abbrev pub RisesFrom : ℕ → List Line → Type 0
 RisesFrom last [] = ⊤
 RisesFrom last (line ∷ lines) = (last < line.number) × RisesFrom line.number lines
 
--- a line is one of the fixed cube's scripts, and a load has its rows
+-- a line is one of the scripts that are run, and a load has its rows
 abbrev pub IsServed : List LoadedTable → ℕ → Verb → Type 0
 IsServed tables number (verb.Load name path) = (bytes_eq name (codes "F") ≡ true) × (is_some (find (λ table. table.line == number) tables) ≡ true)
 IsServed tables number (verb.Refresh range) = ⊥
@@ -84,7 +83,7 @@ pub record IsGrown (old : BoardModel) (later : List (Turn Ask)) (new : BoardMode
 
 -- the turns of a query before its end, and of one that has its end
 abbrev pub asked_turns : ℕ → ℕ → List (Turn Ask)
-asked_turns line session = Takes line (command.Ask session by_first) ∷ QueryTakes line ∷ []
+asked_turns line session = Takes line (command.Ask session only_query) ∷ QueryTakes line ∷ []
 
 -- a claim or the end of a step
 abbrev pub IsOfStep : Turn Ask → Type 0
@@ -117,32 +116,33 @@ pub record IsIdle (w : World Ask) : Type 0 where
 
 -- the entries of the turns of a board
 abbrev pub entries_in : List Line → BoardModel → List Entry
-entries_in script board = entries_along served script (start board.workers (length fixed.tables) []) [] (turns board)
+entries_in script board = entries_along served script (start board.workers (length cube.tables) []) [] (turns board)
 
 -- the attempts that its commands found in flight
 abbrev pub stops_in : BoardModel → List Request
-stops_in board = stops_along fixed (start board.workers (length fixed.tables) []) (turns board)
+stops_in board = stops_along cube (start board.workers (length cube.tables) []) (turns board)
 
--- the board's turns are those of its events over the inputs, their commands are the first ones of the script, and none of them found an
+-- the run starts with no segment, the board's turns are those of its events over the inputs, their commands are the first ones of the script, and none of them found an
 -- attempt in flight
 pub record IsFront (inputs : Inputs) (board : BoardModel) : Type 0 where
   pub workers : board.workers ≡ inputs.workers
+  pub ready : inputs.ready ≡ []
   pub named : turns_of served inputs (map event_of (turns board)) ≡ turns board
   pub later : List ℕ
   pub in_order : lines_in inputs.script ≡ lines_taken (map event_of (turns board)) ++ later
   pub no_stops : stops_in board ≡ []
 
--- so many commands of the script were taken, and all their blocks are told; each job has its next task
+-- so many commands of the script were taken, and all their blocks are told
 pub record IsSound (inputs : Inputs) (board : BoardModel) (taken : ℕ) : Type 0 where
   pub within : taken ≤ length inputs.script
   pub workers : board.workers ≡ inputs.workers
+  pub ready : inputs.ready ≡ []
   pub named : turns_of served inputs (map event_of (turns board)) ≡ turns board
   pub in_order : lines_taken (map event_of (turns board)) ≡ lines_in (take taken inputs.script)
   pub later : RisesFrom (now board).line (drop taken inputs.script)
   pub idle : IsIdle (now board)
   pub all_told : AreTold (entries_in inputs.script board)
   pub no_stops : stops_in board ≡ []
-  pub tasks : HasTasksIn board
 
 -- where a run is trusted, all that is told was written after these bytes; or a part of it from the front
 abbrev pub HasWritten : Type 0 → List Line → BoardModel → Option (List ℕ) → Option (List ℕ) → Type 0

@@ -13,14 +13,11 @@ use Rattle.script_text.specs.declared.verb.Verb.TheVariants as verb
 use Rattle.coordinator.specs.Answers.{IsAnswerOver}
 use Rattle.coordinator.specs.Coordinator.{IsGrown, asked_turns, is_query}
 use Rattle.coordinator.specs.Served.{rows_at, served}
-use Rattle.coordinator.specs.Tasks.{FitsCommand, products_taken}
 
 -- the command of a line that asks for no query was taken, and this is its block
 pub record IsCommand (tables : List LoadedTable) (old : BoardModel) (line : Line) (said : Block) (new : BoardModel) : Type 0 where
   pub no_query : is_query line.verb ≡ false
   pub added : IsAdded old (Takes line.number (command_of served (rows_at tables line.number) line.verb)) new
-  pub fits : FitsCommand (command_of served (rows_at tables line.number) line.verb)
-  pub products : new.products ≡ products_taken (now old) (command_of served (rows_at tables line.number) line.verb) old.products
   pub block : entry_of served (now old) line.number (Some line.verb) (command_of served (rows_at tables line.number) line.verb) ≡ Told line.number said
 
 -- the query of a line has its end, and this is its block
@@ -30,7 +27,6 @@ pub record IsQuery (honest : Type 0) (old : BoardModel) (line : Line) (said : Bl
   pub asks : line.verb ≡ verb.Query session text
   pub out : QueryOut
   pub grown : IsGrown old (asked_turns line.number session ++ QueryEnds line.number out ∷ []) new
-  pub products : new.products ≡ old.products
   pub answer : IsAnswerOver honest (now old) out said
 
 abbrev pub HasExecuted : Type 0 → List LoadedTable → BoardModel → Line → Block → BoardModel → Type 0

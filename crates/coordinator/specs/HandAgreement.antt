@@ -1,22 +1,15 @@
 -- What the coordinator keeps of the hand between two turns.
-use Rattle.std.specs.Prelude.{◌≡◌, ◌≢◌, ◌⊎◌, ◌++◌, ⊤, List, All, Option, Some, map, option_map}
-use Rattle.fixed_cube.specs.Cube.{fixed}
+use Rattle.std.specs.Prelude.{◌≡◌, ◌≢◌, ◌⊎◌, ◌++◌, List, All, Option, Some, map, option_map}
+use Rattle.job_board.specs.Ledger.{cube}
 use Rattle.job_board.specs.BoardModel.{BoardModel, turns}
 use Rattle.job_board.specs.declared.answers.Work.{Work}
 use Rattle.outside.specs.Hands.{Call, Fail, call_of, fault_for, with_call}
-use Rattle.run_history.specs.Commands.{Turn, event_of}
-use Rattle.run_history.specs.Commands.Turn.{Takes, Claims, StepEnds, QueryTakes, QueryEnds}
+use Rattle.run_history.specs.Commands.{event_of}
 use Rattle.run_history.specs.declared.event.Outcome.{Outcome}
 use Rattle.run_history.specs.declared.event.Outcome.TheVariants as outcome
-use Rattle.coordinator.specs.StepOutcomes.{AreCallsOf, EndsBy, IsEndBy, IsUndamaged}
-
--- a turn that ends no step
-abbrev pub EndsNoStep : {Query : Type 0} → Turn Query → Type 0
-EndsNoStep (StepEnds job attempt outcome) = ⊥
-EndsNoStep (Takes line command) = ⊤
-EndsNoStep (Claims job attempt) = ⊤
-EndsNoStep (QueryTakes line) = ⊤
-EndsNoStep (QueryEnds line out) = ⊤
+use Rattle.step_outcomes.specs.Calls.{AreCallsOf}
+use Rattle.step_outcomes.specs.Ends.{IsUndamaged}
+use Rattle.step_outcomes.specs.Faults.{EndsBy, IsEndBy}
 
 -- what a hand did for the end of a step
 pub record HasRun {H : Type 0} (honest : Type 0) (fails : H → Option (List Fail)) (calls : H → Option (List Call)) (work : Work) (old new : H) (o : Outcome) : Type 0 where
@@ -33,4 +26,4 @@ pub record AgreesWithHand {H : Type 0} (honest : Type 0) (fails : H → Option (
   pub sound : honest → All IsUndamaged (map event_of (turns board))
   pub new_calls : List Call
   pub told_calls : calls hand ≡ option_map (λ before. before ++ new_calls) (calls base)
-  pub are_calls : AreCallsOf fixed honest board.workers (turns board) new_calls
+  pub are_calls : AreCallsOf cube honest board.workers (turns board) new_calls

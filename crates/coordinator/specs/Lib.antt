@@ -4,8 +4,6 @@ pub mod Answers
 pub mod Coordinator
 pub mod ExecutedLines
 pub mod Claims
-pub mod StepOutcomes
 pub mod HandAgreement
 pub mod Stops
-pub mod Tasks
 pub mod Examples

@@ -1,7 +1,6 @@
 -- What a run leaves: its history, what was written, and how often the hands were called.
-use Rattle.std.specs.Prelude.{◌≡◌, ◌≢◌, ◌⊎◌, ⊤, ℕ, Bool, true, false, List, [], count_by, length, Option, Result, Ok, Err}
+use Rattle.std.specs.Prelude.{◌≡◌, ◌≢◌, ◌⊎◌, ⊤, ℕ, List, [], length, Option, Result, Ok, Err}
 use Rattle.std.specs.Io.KnownBytes.{append_known}
-use Rattle.fixed_cube.specs.Cube.{fixed}
 use Rattle.outside.specs.Written.{AppendsPart}
 use Rattle.plain_answer.specs.declared.ask.Ask.{Ask}
 use Rattle.range_list.specs.Ranges.{IsApart}
@@ -11,15 +10,13 @@ use Rattle.run_history.specs.Histories.{Along}
 use Rattle.run_history.specs.Invariants.{ranges_of}
 use Rattle.run_history.specs.World.{World, set_at, start}
 use Rattle.run_history.specs.declared.event.Event.{Event}
-use Rattle.run_history.specs.declared.event.Event.TheVariants as event
-use Rattle.run_history.specs.declared.event.Outcome.{Outcome}
-use Rattle.run_history.specs.declared.event.Outcome.TheVariants as outcome
 use Rattle.run_history.specs.declared.event.QueryOut.TheVariants.{Answered, Memory as NoAnswer}
 use Rattle.run_transcript.specs.Runs.{IsFresh, IsLegal, IsWhole, turns_of, world_of}
 use Rattle.run_transcript.specs.Served.{Inputs}
 use Rattle.run_transcript.specs.Transcripts.{transcript}
 use Rattle.coordinator.specs.Served.{served}
 use Rattle.coordinator.specs.declared.fault.RunFault.{RunFault}
+use Rattle.job_board.specs.Ledger.{cube}
 use Rattle.coordinator.specs.declared.fault.RunFault.TheVariants as fault
 
 -- an answer is over a set without a segment
@@ -33,37 +30,7 @@ IsOverNone w (QueryEnds line NoAnswer) = ⊤
 
 -- hands are honest, or no query was answered over a set that holds a segment
 abbrev pub AreTrusted : Type 0 → ℕ → List (Turn Ask) → Type 0
-AreTrusted honest workers turns = honest ⊎ Along fixed IsOverNone (start workers (length fixed.tables) []) turns
-
--- ---- ends
-
--- the end of a step with a hand's fault
-abbrev pub is_fault : Outcome → Bool
-is_fault outcome.NotStarted = true
-is_fault (outcome.Ended status) = true
-is_fault outcome.Killed = true
-is_fault outcome.NoFile = true
-is_fault outcome.Done = false
-is_fault outcome.Damaged = false
-is_fault outcome.Memory = false
-
-abbrev pub is_no_memory : Outcome → Bool
-is_no_memory outcome.Memory = false
-is_no_memory _ = true
-
-abbrev pub is_end : (Outcome → Bool) → Event → Bool
-is_end test (event.StepEnd job attempt outcome) = test outcome
-is_end test (event.Command line) = false
-is_end test (event.Claim job attempt) = false
-is_end test (event.QueryTake line) = false
-is_end test (event.QueryEnd line out) = false
-
--- how many steps ended with a hand's fault, and with another outcome than want of memory
-abbrev pub fault_ends : List Event → ℕ
-fault_ends history = count_by (is_end is_fault) history
-
-abbrev pub run_ends : List Event → ℕ
-run_ends history = count_by (is_end is_no_memory) history
+AreTrusted honest workers turns = honest ⊎ Along cube IsOverNone (start workers (length cube.tables) []) turns
 
 -- ---- what a run leaves
 

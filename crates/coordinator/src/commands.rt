@@ -2,8 +2,7 @@
 
 ghost use Rattle.std.specs.Prelude.{◌≡◌, ◌<◌, ◌++◌, ◌∷◌, [], ℕ, List, All, IfNone, IfOk, IfSome, OnErr, OnOk, Some, None, false, map, option_map};
 ghost use Rattle.std.specs.Arc.{arc_value};
-ghost use Rattle.fixed_cube.specs.Columns.{fact_columns, row_limit};
-ghost use Rattle.fixed_cube.specs.Cube.{fixed};
+ghost use Rattle.job_board.specs.Ledger.{FitsTable, cube};
 ghost use Rattle.job_board.specs.BoardModel.{IsAdded, now};
 ghost use Rattle.job_machine.specs.declared.state.JobKind.TheVariants.{Build};
 ghost use Rattle.run_history.specs.Commands.{Command as command};
@@ -16,10 +15,8 @@ ghost use Rattle.run_transcript.specs.Entries.Entry.{Told};
 ghost use Rattle.run_transcript.specs.Served.{command_of};
 ghost use Rattle.script_text.specs.declared.verb.Verb.{Verb};
 ghost use Rattle.script_text.specs.declared.verb.Verb.TheVariants as verb;
-ghost use Rattle.step_fields.specs.Fits.{FitsRows, IsDayRange};
 ghost use Rattle.coordinator.specs.Coordinator.{AreNotInFlight, IsServedLine, awaited, is_query, load_of};
 ghost use Rattle.coordinator.specs.Served.{rows_at, served};
-ghost use Rattle.coordinator.specs.Tasks.{FitsCommand, products_taken};
 
 use crate::listing::{job_lines, tally_of};
 use crate::loads::{SharedLoad, load_at};
@@ -90,10 +87,9 @@ fn load<H: Hand<SmallWork> + Drop>(
 ) -> Result<Block, AllocError>
     requires room { 0 < board.old.room }
     requires above { (now board.old).line < line }
-    requires fits { FitsRows fact_columns row_limit (arc_value rows.now) }
+    requires fits { FitsTable (arc_value rows.now) }
     ensures added { OnOk result (IsAdded board.old (Takes line (command.Load 0 (arc_value rows.now))) board.new) }
     ensures block { IfOk result (λ block. (said : Verb) → entry_of served (now board.old) line (Some said) (command.Load 0 (arc_value rows.now)) ≡ Told line block) }
-    ensures products { board.new.products ≡ board.old.products }
     ensures err { OnErr result (board.new ≡ board.old) }
 {
     let table = NameText::new(alloc, b"F")?;
@@ -112,8 +108,6 @@ fn build<H: Hand<SmallWork> + Drop>(
     requires above { (now board.old).line < line }
     ensures added { OnOk result (IsAdded board.old (Takes line (command.Submit Build range)) board.new) }
     ensures block { IfOk result (λ block. (said : Verb) → entry_of served (now board.old) line (Some said) (command.Submit Build range) ≡ Told line block) }
-    ensures products { OnOk result (board.new.products ≡ products_taken (now board.old) (command.Submit Build range) board.old.products) }
-    ensures days { IsDayRange range }
     ensures err { OnErr result (board.new ≡ board.old) }
 {
     match board.submit(line, range) {
@@ -142,7 +136,6 @@ fn control_job<H: Hand<SmallWork> + Drop, P: Stopper>(
     requires not_in_flight { AreNotInFlight (now board.old).jobs }
     ensures added { IsAdded board.old (Takes line (command.Steer control job)) board.new }
     ensures block { (said : Verb) → entry_of served (now board.old) line (Some said) (command.Steer control job) ≡ Told line result }
-    ensures products { board.new.products ≡ board.old.products }
     ensures stopper { stopper.new ≡ stopper.old }
 {
     match board.control(line, control, job) {
@@ -166,7 +159,6 @@ fn await_job<H: Hand<SmallWork> + Drop>(board: &mut Board<H>, line: u32, job: u3
     requires may { MayNote (now board.old) (Noted.AwaitJob job) }
     ensures added { IsAdded board.old (Takes line (command.Note (Noted.AwaitJob job))) board.new }
     ensures block { (said : Verb) → entry_of served (now board.old) line (Some said) (command.Note (Noted.AwaitJob job)) ≡ Told line result }
-    ensures products { board.new.products ≡ board.old.products }
 {
     let block = match board.job(job) {
         Some(entry) => Block::State {
@@ -186,7 +178,6 @@ fn await_jobs<H: Hand<SmallWork> + Drop>(board: &mut Board<H>, line: u32) -> Blo
     requires may { MayNote (now board.old) Noted.AwaitJobs }
     ensures added { IsAdded board.old (Takes line (command.Note Noted.AwaitJobs)) board.new }
     ensures block { (said : Verb) → entry_of served (now board.old) line (Some said) (command.Note Noted.AwaitJobs) ≡ Told line result }
-    ensures products { board.new.products ≡ board.old.products }
 {
     let tally = tally_of(board.jobs());
     board.note(line, Noted::AwaitJobs);
@@ -200,7 +191,6 @@ fn await_queries<H: Hand<SmallWork> + Drop>(board: &mut Board<H>, line: u32) -> 
     requires may { MayNote (now board.old) Noted.AwaitQueries }
     ensures added { IsAdded board.old (Takes line (command.Note Noted.AwaitQueries)) board.new }
     ensures block { (said : Verb) → entry_of served (now board.old) line (Some said) (command.Note Noted.AwaitQueries) ≡ Told line result }
-    ensures products { board.new.products ≡ board.old.products }
 {
     let accepted = board.accepted();
     board.note(line, Noted::AwaitQueries);
@@ -217,7 +207,6 @@ fn list_jobs<H: Hand<SmallWork> + Drop>(
     requires above { (now board.old).line < line }
     ensures added { OnOk result (IsAdded board.old (Takes line (command.Note Other)) board.new) }
     ensures block { IfOk result (λ block. entry_of served (now board.old) line (Some verb.Jobs) (command.Note Other) ≡ Told line block) }
-    ensures products { board.new.products ≡ board.old.products }
     ensures err { OnErr result (board.new ≡ board.old) }
 {
     let lines = job_lines(alloc, board.jobs())?;
@@ -235,7 +224,6 @@ fn show_cube<H: Hand<SmallWork> + Drop>(
     requires above { (now board.old).line < line }
     ensures added { OnOk result (IsAdded board.old (Takes line (command.Note Other)) board.new) }
     ensures block { IfOk result (λ block. block ≡ served.shown) }
-    ensures products { board.new.products ≡ board.old.products }
     ensures err { OnErr result (board.new ≡ board.old) }
 {
     let block = cube_block(alloc)?;
@@ -260,8 +248,6 @@ pub fn take_command<H: Hand<SmallWork> + Drop, P: Stopper>(
     requires not_in_flight { AreNotInFlight (now board.old).jobs }
     ensures added { OnOk result (IsAdded board.old (Takes line.now.number (command_of served (rows_at (map load_of loads.now) line.now.number) line.now.verb)) board.new) }
     ensures block { IfOk result (λ block. entry_of served (now board.old) line.now.number (Some line.now.verb) (command_of served (rows_at (map load_of loads.now) line.now.number) line.now.verb) ≡ Told line.now.number block) }
-    ensures fits { OnOk result (FitsCommand (command_of served (rows_at (map load_of loads.now) line.now.number) line.now.verb)) }
-    ensures products { OnOk result (board.new.products ≡ products_taken (now board.old) (command_of served (rows_at (map load_of loads.now) line.now.number) line.now.verb) board.old.products) }
     ensures stopper { stopper.new ≡ stopper.old }
     ensures err { OnErr result (board.new ≡ board.old) }
 {

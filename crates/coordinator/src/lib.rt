@@ -1,4 +1,4 @@
-//! A run of a script over the fixed cube, in one thread.
+//! A run of a script on a board, in one thread.
 //!
 //! The coordinator takes one turn after another on the job board: the next command of the script where what it waits for is there, or else
 //! a step of the first job in the queue, which it runs on the one hand before anything else. A query is answered where its command is taken.
@@ -20,6 +20,6 @@ mod run;
 mod steps;
 mod turns;
 
-pub use examples::{worked_calls, worked_ends, worked_stops};
+pub use examples::worked_stops;
 pub use fault::RunFault;
 pub use run::{ScriptRun, run_script};

@@ -1,19 +1,15 @@
 // What is listed of the jobs of a board.
 
 ghost use Rattle.std.specs.Prelude.{◌≡◌, ◌<◌, ◌^◌, IfOk, count_by, length, map};
-ghost use Rattle.fixed_state.specs.States.{rows_seen};
 ghost use Rattle.run_history.specs.World.{count_in};
 ghost use Rattle.run_state.specs.States.{submitted_of};
+ghost use Rattle.job_board.specs.Ledger.{rows_seen};
 ghost use Rattle.run_transcript.specs.Entries.{job_line, is_discarded, is_finished, is_in_error, is_stopped, tally_of};
 
-use fixed_state::{KeptProduct, SharedTable};
+use job_board::BoardJob;
 use job_machine::JobState;
-use run_state::JobEntry;
 use script_text::{JobLine, Tally};
 use std::alloc::{AllocError, Global};
-
-/// A job of a board.
-pub type Entry = JobEntry<SharedTable, KeptProduct>;
 
 // Whether a job is FINISHED.
 fn is_finished(state: JobState) -> bool
@@ -56,7 +52,7 @@ fn is_discarded(state: JobState) -> bool
 }
 
 // How many jobs are FINISHED.
-fn finished_in(jobs: &[Entry]) -> u32
+fn finished_in(jobs: &[BoardJob]) -> u32
     requires { length jobs.now < 2 ^ 32 }
     ensures { result ≡ count_by (λ entry. is_finished entry.job.state) jobs.now }
 {
@@ -66,7 +62,7 @@ fn finished_in(jobs: &[Entry]) -> u32
 }
 
 // How many jobs are in ERROR.
-fn in_error_in(jobs: &[Entry]) -> u32
+fn in_error_in(jobs: &[BoardJob]) -> u32
     requires { length jobs.now < 2 ^ 32 }
     ensures { result ≡ count_by (λ entry. is_in_error entry.job.state) jobs.now }
 {
@@ -76,7 +72,7 @@ fn in_error_in(jobs: &[Entry]) -> u32
 }
 
 // How many jobs are STOPPED.
-fn stopped_in(jobs: &[Entry]) -> u32
+fn stopped_in(jobs: &[BoardJob]) -> u32
     requires { length jobs.now < 2 ^ 32 }
     ensures { result ≡ count_by (λ entry. is_stopped entry.job.state) jobs.now }
 {
@@ -86,7 +82,7 @@ fn stopped_in(jobs: &[Entry]) -> u32
 }
 
 // How many jobs are DISCARDED.
-fn discarded_in(jobs: &[Entry]) -> u32
+fn discarded_in(jobs: &[BoardJob]) -> u32
     requires { length jobs.now < 2 ^ 32 }
     ensures { result ≡ count_by (λ entry. is_discarded entry.job.state) jobs.now }
 {
@@ -96,7 +92,7 @@ fn discarded_in(jobs: &[Entry]) -> u32
 }
 
 /// How many jobs rest in each state.
-pub fn tally_of(jobs: &[Entry]) -> Tally
+pub fn tally_of(jobs: &[BoardJob]) -> Tally
     requires { length jobs.now < 2 ^ 32 }
     ensures { result ≡ tally_of (map (submitted_of rows_seen) jobs.now) }
 {
@@ -109,7 +105,7 @@ pub fn tally_of(jobs: &[Entry]) -> Tally
 }
 
 // The line of a job.
-fn job_line(entry: &Entry) -> JobLine
+fn job_line(entry: &BoardJob) -> JobLine
     ensures { result ≡ job_line (submitted_of rows_seen entry.now) }
 {
     JobLine {
@@ -123,7 +119,7 @@ fn job_line(entry: &Entry) -> JobLine
 }
 
 /// The lines of the jobs by number.
-pub fn job_lines(alloc: Global, jobs: &[Entry]) -> Result<Vec<JobLine>, AllocError>
+pub fn job_lines(alloc: Global, jobs: &[BoardJob]) -> Result<Vec<JobLine>, AllocError>
     ensures { IfOk result (λ lines. lines.items ≡ map job_line (map (submitted_of rows_seen) jobs.now)) }
 {
     let mut lines = Vec::new(alloc);

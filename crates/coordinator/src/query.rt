@@ -1,7 +1,7 @@
 // A query, from its command to its end.
 
 ghost use Rattle.std.specs.Prelude.{◌≡◌, ◌<◌, ◌++◌, ◌∷◌, [], ℕ, IfOk, OnErr, OnOk, take};
-ghost use Rattle.fixed_cube.specs.Answers.{by_first};
+ghost use Rattle.job_board.specs.Ledger.{only_query};
 ghost use Rattle.job_board.specs.BoardModel.{IsAdded, IsSame, now};
 ghost use Rattle.run_history.specs.Commands.{Command as command};
 ghost use Rattle.run_history.specs.Commands.Turn.{QueryEnds, QueryTakes, Takes};
@@ -22,8 +22,7 @@ fn accept_query<H: Hand<SmallWork> + Drop>(
     session: u32,
 ) -> Result<(), AllocError>
     requires above { (now board.old).line < line }
-    ensures ok { OnOk result (IsAdded board.old (Takes line (command.Ask session by_first)) board.new) }
-    ensures products { board.new.products ≡ board.old.products }
+    ensures ok { OnOk result (IsAdded board.old (Takes line (command.Ask session only_query)) board.new) }
     ensures err { OnErr result (IsSame board.old board.new) }
 {
     board.reserve_turn()?;
@@ -38,7 +37,6 @@ fn take_accepted<H: Hand<SmallWork> + Drop>(
     requires { IsAccepted (now board.old) line }
     ensures ok { IfOk result (λ work. IsAdded board.old (QueryTakes line) board.new) }
     ensures work { IfOk result (λ work. IsTakenQuery H.honest (now board.old) line work) }
-    ensures products { board.new.products ≡ board.old.products }
     ensures err { OnErr result (IsSame board.old board.new) }
 {
     board.reserve_turn()?;
@@ -56,7 +54,6 @@ fn end_taken<H: Hand<SmallWork> + Drop>(
 ) -> Result<Block, AllocError>
     requires { CanEnd (now board.old) work.now.line work.now.version }
     ensures ok { IfOk result (λ block. (out : QueryOut) × IsAdded board.old (QueryEnds work.now.line out) board.new × IsAnswerOf work.now out block) }
-    ensures products { board.new.products ≡ board.old.products }
     ensures err { OnErr result (IsSame board.old board.new) }
 {
     board.reserve_turn()?;
@@ -82,7 +79,6 @@ pub fn answer_query<H: Hand<SmallWork> + Drop>(
     requires above { (now board.old).line < line }
     requires idle { IsIdle (now board.old) }
     ensures ok { IfOk result (λ block. (out : QueryOut) × IsGrown board.old (asked_turns line session ++ QueryEnds line out ∷ []) board.new × IsAnswerOver H.honest (now board.old) out block) }
-    ensures products { board.new.products ≡ board.old.products }
     ensures err { OnErr result ((count : ℕ) × IsGrown board.old (take count (asked_turns line session)) board.new) }
 {
     accept_query(board, line, session)?;

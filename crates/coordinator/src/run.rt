@@ -3,7 +3,7 @@
 ghost use denote.Param.Send.{IsSync};
 ghost use Rattle.std.specs.Prelude.{◌≡◌, ◌≢◌, ◌≤◌, ◌∷◌, ◌++◌, [], ℕ, All, IfErr, IfOk, IsErrOf, List, OnErr, OnOk, Option, Some, length, map, option_map, true};
 ghost use Rattle.std.specs.Io.KnownBytes.{append_known};
-ghost use Rattle.fixed_cube.specs.Cube.{fixed};
+ghost use Rattle.job_board.specs.Ledger.{cube};
 ghost use Rattle.job_board.specs.BoardModel.{now, turns};
 ghost use Rattle.outside.specs.Counts.{Rose};
 ghost use Rattle.outside.specs.Hands.{Call, Fail};
@@ -15,11 +15,14 @@ ghost use Rattle.run_transcript.specs.Runs.{turns_of};
 ghost use Rattle.run_transcript.specs.Transcripts.{transcript};
 ghost use Rattle.script_text.specs.Blocks.{end_text};
 ghost use Rattle.coordinator.specs.Coordinator.{AreGiven, HasWritten, IsCounted, IsFront, IsSound, HasNoNextTurn, inputs_in, is_done, load_of};
-ghost use Rattle.coordinator.specs.Runs.{AreTrusted, IsRunOver, fault_ends, run_ends, status_of};
+ghost use Rattle.coordinator.specs.Runs.{AreTrusted, IsRunOver, status_of};
+ghost use Rattle.step_outcomes.specs.Ends.{fault_ends, run_ends};
 ghost use Rattle.coordinator.specs.Served.{inputs_of, served};
 ghost use Rattle.coordinator.specs.Stops.{AsksAmong, stops_of};
 ghost use Rattle.coordinator.specs.HandAgreement.{AgreesWithHand};
-ghost use Rattle.coordinator.specs.StepOutcomes.{AreCallsOf, IsEndBy, IsUndamaged, StandsAmong};
+ghost use Rattle.step_outcomes.specs.Calls.{AreCallsOf};
+ghost use Rattle.step_outcomes.specs.Ends.{IsUndamaged};
+ghost use Rattle.step_outcomes.specs.Faults.{IsEndBy, StandsAmong};
 
 use crate::fault::RunFault;
 use crate::listing::tally_of;
@@ -131,7 +134,7 @@ fn drive<R: Threads + Wait + Sync, H: Hand<SmallWork> + Drop, P: Stopper, S: Sin
     unreachable!()
 }
 
-/// Runs a script over the fixed cube: takes its commands one after another, each as soon as what it waits for is there, runs the steps of
+/// Runs a script on a board: takes its commands one after another, each as soon as what it waits for is there, runs the steps of
 /// its jobs on the one hand, and writes the transcript as it becomes known. Want of memory and a write that fails end the run at once.
 pub fn run_script<R: Threads + Wait + Sync, H: Hand<SmallWork> + Drop, P: Stopper, S: Sink>(
     rt: &R,
@@ -155,7 +158,7 @@ pub fn run_script<R: Threads + Wait + Sync, H: Hand<SmallWork> + Drop, P: Stoppe
     ensures fails_same { H.fails result.hand ≡ H.fails hand }
 
     // The hand's calls, where it tells them: the new ones are those of the ends of steps.
-    ensures calls { (calls : List Call) × (H.calls result.hand ≡ option_map (λ before. before ++ calls) (H.calls hand)) × AreCallsOf fixed H.honest 1 (turns_of served (inputs_of 1 inputs) result.history.items) calls }
+    ensures calls { (calls : List Call) × (H.calls result.hand ≡ option_map (λ before. before ++ calls) (H.calls hand)) × AreCallsOf cube H.honest 1 (turns_of served (inputs_of 1 inputs) result.history.items) calls }
 
     // Where the hand is honest no product is Damaged.
     ensures undamaged { H.honest → All IsUndamaged result.history.items }

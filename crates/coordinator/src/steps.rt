@@ -2,25 +2,22 @@
 
 ghost use denote.Param.Send.{IsSync};
 ghost use Rattle.std.specs.Prelude.{◌≡◌, ◌∷◌, [], ℕ, List, IfOk, IfSome, None, Ok, OnErr, OnOk, false};
-ghost use Rattle.byte_frame.specs.Exact.{IsBytes};
 ghost use Rattle.job_board.specs.BoardModel.{IsAdded, IsSame, now};
 ghost use Rattle.run_history.specs.Commands.Turn.{StepEnds};
 ghost use Rattle.run_history.specs.declared.event.Outcome.{Outcome};
 ghost use Rattle.coordinator.specs.Claims.{IsClaimed, IsWorkOf};
 ghost use Rattle.coordinator.specs.Coordinator.{IsCounted, IsIdle, IsWorked};
-ghost use Rattle.coordinator.specs.Tasks.{HasTasksIn, IsOfBytes};
 ghost use Rattle.coordinator.specs.HandAgreement.{HasRun, AgreesWithHand};
 
 use job_board::{Board, SmallWork, Work};
-use outside::{Hand, HandFault};
+use outside::Hand;
 use std::alloc::{AllocError, Global};
 use std::sync::Wait;
 use std::thread::Threads;
 
 // Claims the next step of the first job in the queue; `None` where the queue is empty.
 fn claim_step<H: Hand<SmallWork> + Drop>(board: &mut Board<H>) -> Result<Option<Work>, AllocError>
-    requires idle { IsIdle (now board.old) }
-    requires tasks { HasTasksIn board.old }
+    requires { IsIdle (now board.old) }
     ensures err { OnErr result (IsSame board.old board.new) }
     ensures none { IfOk result (λ found. found ≡ None → IsSame board.old board.new) }
     ensures empty { IfOk result (λ found. found ≡ None → (now board.old).queue ≡ []) }
@@ -28,23 +25,6 @@ fn claim_step<H: Hand<SmallWork> + Drop>(board: &mut Board<H>) -> Result<Option<
 {
     board.reserve_turn()?;
     board.claim()
-}
-
-// How many bytes there are. What it says is that they are bytes.
-fn byte_count(bytes: &[u8]) -> usize
-    ensures { IsBytes bytes.now }
-{
-    bytes.len()
-}
-
-// How many bytes the product has that a hand answered with, which are bytes.
-fn product_len(answer: &Result<Vec<u8>, HandFault>) -> usize
-    ensures { IsOfBytes answer.now }
-{
-    match answer {
-        Ok(product) => byte_count(product.as_slice()),
-        Err(_) => 0,
-    }
 }
 
 // Runs a claimed step, and records its end.
@@ -57,16 +37,13 @@ fn run_claimed<R: Threads + Wait + Sync, H: Hand<SmallWork> + Drop>(
 ) -> Result<(), AllocError>
     requires sync { IsSync R.row }
     requires work { IsWorkOf H.honest (now board.old) work }
-    requires tasks { HasTasksIn board.old }
     ensures err { OnErr result (IsSame board.old board.new) }
     ensures same { OnErr result (hand.new ≡ hand.old) }
     ensures ended { OnOk result ((outcome : Outcome) × IsAdded board.old (StepEnds work.job work.attempt outcome) board.new × HasRun H.honest H.fails H.calls work hand.old hand.new outcome) }
-    ensures tasks { OnOk result (HasTasksIn board.new) }
     ensures counted { (base : List H) → IsCounted H.runs H.faults base (hand.old ∷ []) board.old → IsCounted H.runs H.faults base (hand.new ∷ []) board.new }
 {
     board.reserve_turn()?;
     let answer = hand.run(rt, alloc, work.job, work.attempt, work.task.as_slice());
-    let _ = product_len(&answer);
     let _ = board.end_step(work.job, work.attempt, answer);
     Ok(())
 }
@@ -80,10 +57,8 @@ pub fn run_step<R: Threads + Wait + Sync, H: Hand<SmallWork> + Drop>(
 ) -> Result<bool, AllocError>
     requires sync { IsSync R.row }
     requires idle { IsIdle (now board.old) }
-    requires tasks { HasTasksIn board.old }
     ensures worked { IsWorked board.old board.new }
     ensures idle { OnOk result (IsIdle (now board.new)) }
-    ensures tasks { OnOk result (HasTasksIn board.new) }
     ensures same { result ≡ Ok false → IsSame board.old board.new }
     ensures empty { result ≡ Ok false → (now board.old).queue ≡ [] }
     ensures counted { (base : List H) → IsCounted H.runs H.faults base (hand.old ∷ []) board.old → IsCounted H.runs H.faults base (hand.new ∷ []) board.new }

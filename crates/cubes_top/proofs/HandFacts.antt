@@ -5,13 +5,14 @@ use Rattle.std.proofs.lemmas.List.Elements.{All-head}
 use Rattle.outside.specs.Hands.{Call, Fail}
 use Rattle.outside.specs.Rises.{AllTell, AllTellThat, Gained, TellSame, entries_of}
 use Rattle.outside.proofs.Rises.{Gained-none, Gained-one, TellSame-none, TellSame-set}
-use Rattle.fixed_cube.specs.Cube.{fixed}
 use Rattle.run_history.specs.declared.event.Event.{Event}
 use Rattle.run_inputs.specs.declared.inputs.FixedInputs.{FixedInputs}
 use Rattle.run_transcript.specs.Runs.{turns_of}
 use Rattle.coordinator.specs.Served.{inputs_of, served}
-use Rattle.coordinator.specs.StepOutcomes.{AreCallsOf, IsEndBy, StandsAmong}
+use Rattle.step_outcomes.specs.Calls.{AreCallsOf}
+use Rattle.step_outcomes.specs.Faults.{IsEndBy, StandsAmong}
 use Rattle.coordinator.proofs.HandAgreementFacts.{calls-none_over}
+use Rattle.job_board.specs.Ledger.{cube}
 use Rattle.cubes_top.specs.Ties.{HaveCalled}
 
 -- ---- one hand
@@ -49,7 +50,7 @@ same-one {H = H} told old new hands hands' e e' same =
     (subst (λ (hs : List H). TellSame told (old ∷ []) hs) (sym e') (TellSame-set told (old ∷ []) 0 new old (omega arith) same))
 
 pub called-one : {H : Type 0} (calls : H → Option (List Call)) (honest : Type 0) (given : FixedInputs) (history : List Event) (old new : H) (hands hands' : List H) → hands ≡ old ∷ [] → hands' ≡ new ∷ []
-    → (entries : List Call) → calls new ≡ option_map (λ before. before ++ entries) (calls old) → AreCallsOf fixed honest 1 (turns_of served (inputs_of 1 given) history) entries
+    → (entries : List Call) → calls new ≡ option_map (λ before. before ++ entries) (calls old) → AreCallsOf cube honest 1 (turns_of served (inputs_of 1 given) history) entries
     → HaveCalled calls honest given history hands hands'
 called-one {H = H} calls honest given history old new hands hands' e e' entries is of_ends = record {
   entries = entries;

@@ -4,7 +4,6 @@ use Rattle.std.proofs.lemmas.Bool.{eq-eqb, eqb-true, false≢true}
 use Rattle.std.specs.Prelude.{find, slice_get}
 use Rattle.std.specs.List.{list_any}
 use Rattle.coordinator.specs.Served.{served}
-use Rattle.fixed_cube.specs.Cube.{fixed}
 use Rattle.job_machine.specs.Job.{Act, JobRecord, is_current, is_last_step, is_running, moved_or_same, new_job, next, state_after}
 use Rattle.job_machine.specs.declared.state.Ended.{Ended as EndKind}
 use Rattle.job_machine.specs.declared.state.Ended.TheVariants as ended
@@ -16,7 +15,8 @@ use Rattle.run_history.specs.Commands.{Command, Turn}
 use Rattle.run_history.specs.Commands.Command.{Load, Submit, Drop, Steer, Ask as Asks, Note}
 use Rattle.run_history.specs.Commands.Turn.{Takes, Claims, StepEnds, QueryTakes, QueryEnds}
 use Rattle.run_history.specs.Histories.{AreAtRest, IsLegal, is_empty, is_settled}
-use Rattle.run_history.specs.Invariants.{HasSteps}
+use Rattle.run_history.specs.Invariants.{HasSteps, IsStart}
+use Rattle.run_history.specs.Sets.{ReadySet}
 use Rattle.run_history.specs.Steps.{accepted, by_verdict, claimed, end_by, ended_as, query_ended, query_taken, steered, step, step_ended, with_job, without_claim, world}
 use Rattle.run_history.specs.Verdicts.{act_of, steer_by, steer_refusal, verdict}
 use Rattle.run_history.specs.World.{Asked, Submitted, Waiting, World, in_force, is_under_way, job_at, job_of, start}
@@ -27,9 +27,10 @@ use Rattle.run_history.specs.declared.event.Outcome.{Outcome}
 use Rattle.run_history.specs.declared.event.QueryOut.{QueryOut}
 use Rattle.run_history.specs.declared.event.Outcome.TheVariants as outcome
 use Rattle.run_history.specs.declared.refused.Refused.{Refused}
+use Rattle.job_board.specs.Ledger.{cube}
 use Rattle.job_board.proofs.Rest.{all_rest}
 use Rattle.run_history.proofs.Flights.{claims_world}
-use Rattle.run_history.proofs.Sound.{empty_starts, sound_world}
+use Rattle.run_history.proofs.Sound.{sound_world}
 use Rattle.run_history.proofs.Laws.{job_at-added, job_at-added_other, job_at-with_job, job_at-with_other}
 use Rattle.run_transcript.specs.Runs.{lines_taken, turns_of, world_of}
 use Rattle.cubes_top.specs.Rests.{IsAtEnd, WholeRunsRest, IsThereBy, Last, claimed_by, moved_by, last_after, last_along, last_by, steered_by, ended_by}
@@ -219,13 +220,13 @@ steer_found : (found : Option Submitted) (steps line j n : ℕ) (w : World Ask) 
 steer_found None steps line j n w control last e h = kept j n w.jobs last h
 steer_found (Some first) steps line j n w control last e h = steer_moved (state_after (act_of control) first.job.state) steps line j n w control first last refl e h
 
-command_rests : (w : World Ask) (line n : ℕ) (command : Command Ask) (last : Option Last) → HasRests n w.jobs last → HasRests n (step fixed w (Takes line command)).jobs (last_by w command n last)
-command_rests w line n (Load place rows) last h = other_rests (verdict fixed w (Load place rows)) 0 line n w (Load place rows) last h refl
-command_rests w line n (Submit kind range) last h = submit_rests (verdict fixed w (Submit kind range)) (fixed.steps kind) line n w kind range last h
-command_rests w line n (Drop range) last h = other_rests (verdict fixed w (Drop range)) 0 line n w (Drop range) last h refl
+command_rests : (w : World Ask) (line n : ℕ) (command : Command Ask) (last : Option Last) → HasRests n w.jobs last → HasRests n (step cube w (Takes line command)).jobs (last_by w command n last)
+command_rests w line n (Load place rows) last h = other_rests (verdict cube w (Load place rows)) 0 line n w (Load place rows) last h refl
+command_rests w line n (Submit kind range) last h = submit_rests (verdict cube w (Submit kind range)) (cube.steps kind) line n w kind range last h
+command_rests w line n (Drop range) last h = other_rests (verdict cube w (Drop range)) 0 line n w (Drop range) last h refl
 command_rests w line n (Steer control job) last h = steer_found (job_of w job) 0 line job n w control last refl h
-command_rests w line n (Asks session query) last h = other_rests (verdict fixed w (Asks session query)) 0 line n w (Asks session query) last h refl
-command_rests w line n (Note noted) last h = other_rests (verdict fixed w (Note noted)) 0 line n w (Note noted) last h refl
+command_rests w line n (Asks session query) last h = other_rests (verdict cube w (Asks session query)) 0 line n w (Asks session query) last h refl
+command_rests w line n (Note noted) last h = other_rests (verdict cube w (Note noted)) 0 line n w (Note noted) last h refl
 
 taken_rests : (w : World Ask) (line n : ℕ) (found : Option (Waiting Ask)) (last : Option Last) → HasRests n w.jobs last → HasRests n (query_taken w line found).jobs last
 taken_rests w line n None last h = h
@@ -235,7 +236,7 @@ answered_rests : (w : World Ask) (line n : ℕ) (out : QueryOut) (found : Option
 answered_rests w line n out None last h = h
 answered_rests w line n out (Some q) last h = h
 
-turn_rests : (w : World Ask) (turn : Turn Ask) (n : ℕ) (last : Option Last) → HasRests n w.jobs last → HasRests n (step fixed w turn).jobs (last_after w turn n last)
+turn_rests : (w : World Ask) (turn : Turn Ask) (n : ℕ) (last : Option Last) → HasRests n w.jobs last → HasRests n (step cube w turn).jobs (last_after w turn n last)
 turn_rests w (Takes line command) n last h = command_rests w line n command last h
 turn_rests w (Claims job attempt) n last h = claimed_rests w job attempt n (job_of w job) last refl h
 turn_rests w (StepEnds job attempt o) n last h = ended_rests (record w { steps = without_claim job attempt w.steps }) job attempt n o (job_of w job) last refl h
@@ -243,9 +244,9 @@ turn_rests w (QueryTakes line) n last h = taken_rests w line n (find (λ q. q.li
 turn_rests w (QueryEnds line out) n last h = answered_rests w line n out (find (λ q. q.waiting.line == line) w.asked) last h
 
 -- over all turns
-pub rests-along : (w : World Ask) (turns : List (Turn Ask)) (n : ℕ) (last : Option Last) → HasRests n w.jobs last → HasRests n (fold (step fixed) w turns).jobs (last_along w turns n last)
+pub rests-along : (w : World Ask) (turns : List (Turn Ask)) (n : ℕ) (last : Option Last) → HasRests n w.jobs last → HasRests n (fold (step cube) w turns).jobs (last_along w turns n last)
 rests-along w [] n last h = h
-rests-along w (turn ∷ turns) n last h = rests-along (step fixed w turn) turns n (last_after w turn n last) (turn_rests w turn n last h)
+rests-along w (turn ∷ turns) n last h = rests-along (step cube w turn) turns n (last_after w turn n last) (turn_rests w turn n last h)
 
 -- ---- where nothing is left to do
 
@@ -287,22 +288,22 @@ at_rest : (jobs : List Submitted) (n : ℕ) (s : Submitted) → AreAtRest jobs �
 at_rest jobs zero s h e = absurd cc
 at_rest jobs (suc k) s h e = none_at (λ (t : Submitted). is_under_way t.job.state) jobs k s h e
 
-has_steps : HasSteps fixed
+has_steps : HasSteps cube
 has_steps kind = omega arith
 
 -- each job of a run after which nothing is left to do
-pub settled-rests : (workers : ℕ) (turns : List (Turn Ask)) → IsLegal fixed workers [] turns → is_settled (world fixed workers [] turns) ≡ true → (n : ℕ) (s : Submitted)
-    → job_of (world fixed workers [] turns) n ≡ Some s → IsAtEnd s.job.state (last_along (start workers (length fixed.tables) []) turns n None)
-settled-rests workers turns legal settled n s e =
-    let w = world fixed workers [] turns in
+pub settled-rests : (workers : ℕ) (initial : ReadySet) (turns : List (Turn Ask)) → IsStart initial → IsLegal cube workers initial turns → is_settled (world cube workers initial turns) ≡ true → (n : ℕ) (s : Submitted)
+    → job_of (world cube workers initial turns) n ≡ Some s → IsAtEnd s.job.state (last_along (start workers (length cube.tables) initial) turns n None)
+settled-rests workers initial turns starts legal settled n s e =
+    let w = world cube workers initial turns in
     let last = and_parts (is_empty w.queue && is_empty w.steps && is_empty w.waiting) (is_empty w.asked) settled in
     let third = and_parts (is_empty w.queue && is_empty w.steps) (is_empty w.waiting) last.0 in
     let second = and_parts (is_empty w.queue) (is_empty w.steps) third.0 in
-    let rest = all_rest w (sound_world fixed has_steps workers [] turns empty_starts legal) (claims_world fixed has_steps workers [] turns empty_starts legal) (nothing_left w.queue second.0) (nothing_left w.steps second.1) in
-    at_end s.job.state (last_along (start workers (length fixed.tables) []) turns n None)
-    (rests-along (start workers (length fixed.tables) []) turns n None (no_jobs n None) s e) (at_rest w.jobs n s rest e)
+    let rest = all_rest w (sound_world cube has_steps workers initial turns starts legal) (claims_world cube has_steps workers initial turns starts legal) (nothing_left w.queue second.0) (nothing_left w.steps second.1) in
+    at_end s.job.state (last_along (start workers (length cube.tables) initial) turns n None)
+    (rests-along (start workers (length cube.tables) initial) turns n None (no_jobs n None) s e) (at_rest w.jobs n s rest e)
 
 pub whole-rests : WholeRunsRest
-whole-rests inputs history whole n s e =
+whole-rests inputs history starts whole n s e =
     let settled = and_parts (length (lines_taken history) == length inputs.script) (is_settled (world_of served inputs history)) whole.whole in
-    settled-rests inputs.workers (turns_of served inputs history) whole.legal.allowed settled.1 n s e
+    settled-rests inputs.workers inputs.ready (turns_of served inputs history) starts whole.legal.allowed settled.1 n s e

@@ -1,7 +1,6 @@
 -- What last happened to a job, and what it says of the job's state.
 use Rattle.std.specs.Prelude.{◌≡◌, ◌≢◌, ◌⊎◌, ◌==◌, ⊤, ℕ, List, [], ◌∷◌, Option, Some, None, if◌then◌else◌, length}
 use Rattle.coordinator.specs.Served.{served}
-use Rattle.fixed_cube.specs.Cube.{fixed}
 use Rattle.job_machine.specs.Job.{Act, is_current, state_after}
 use Rattle.job_machine.specs.declared.state.JobState.{JobState}
 use Rattle.job_machine.specs.declared.state.JobState.TheVariants as state
@@ -9,6 +8,7 @@ use Rattle.plain_answer.specs.declared.ask.Ask.{Ask}
 use Rattle.run_history.specs.Commands.{Command, Turn}
 use Rattle.run_history.specs.Commands.Command.{Load, Submit, Drop, Steer, Ask as Asks, Note}
 use Rattle.run_history.specs.Commands.Turn.{Takes, Claims, StepEnds, QueryTakes, QueryEnds}
+use Rattle.run_history.specs.Invariants.{IsStart}
 use Rattle.run_history.specs.Steps.{step}
 use Rattle.run_history.specs.Verdicts.{verdict}
 use Rattle.run_history.specs.World.{Submitted, World, job_of, start}
@@ -19,6 +19,7 @@ use Rattle.run_history.specs.declared.event.Outcome.TheVariants as outcome
 use Rattle.run_history.specs.declared.event.Event.{Event}
 use Rattle.run_history.specs.declared.refused.Refused.{Refused}
 use Rattle.run_transcript.specs.Runs.{IsWhole, turns_of, world_of}
+use Rattle.job_board.specs.Ledger.{cube}
 use Rattle.run_transcript.specs.Served.{Inputs}
 
 -- what can happen to a job: it is claimed, its attempt in flight ends, or it is paused, resumed or discarded
@@ -46,7 +47,7 @@ ended_by (Some s) attempt outcome before = if is_current s.job attempt then Some
 
 -- what a command does to a job of this number
 abbrev pub last_by : World Ask → Command Ask → ℕ → Option Last → Option Last
-last_by w (Steer control job) n before = if job == n then steered_by (verdict fixed w (Steer control job)) control before else before
+last_by w (Steer control job) n before = if job == n then steered_by (verdict cube w (Steer control job)) control before else before
 last_by w (Load place rows) n before = before
 last_by w (Submit kind range) n before = before
 last_by w (Drop range) n before = before
@@ -63,7 +64,7 @@ last_after w (QueryEnds line out) n before = before
 -- what last happened to the job of this number in these turns
 abbrev pub last_along : World Ask → List (Turn Ask) → ℕ → Option Last → Option Last
 last_along w [] n before = before
-last_along w (turn ∷ turns) n before = last_along (step fixed w turn) turns n (last_after w turn n before)
+last_along w (turn ∷ turns) n before = last_along (step cube w turn) turns n (last_after w turn n before)
 
 -- a job in this state is there by what last happened to it: ERROR by the end of its attempt in flight, which was not Done, STOPPED by a
 -- pause, DISCARDED by a discard
@@ -81,7 +82,8 @@ IsAtEnd now last =
     (now ≡ state.Finished) ⊎ (last ≡ Some (Steered Pause)) ⊎ (last ≡ Some (Steered Discard))
     ⊎ ((o : Outcome) × (last ≡ Some (Ended o)) × (o ≢ outcome.Done))
 
+-- so is each job of a whole run, whatever ready set the run starts with
 abbrev pub WholeRunsRest : Type 0
 WholeRunsRest =
-    (inputs : Inputs) (history : List Event) → IsWhole served inputs history → (n : ℕ) (s : Submitted) → job_of (world_of served inputs history) n ≡ Some s
-    → IsAtEnd s.job.state (last_along (start inputs.workers (length fixed.tables) []) (turns_of served inputs history) n None)
+    (inputs : Inputs) (history : List Event) → IsStart inputs.ready → IsWhole served inputs history → (n : ℕ) (s : Submitted) → job_of (world_of served inputs history) n ≡ Some s
+    → IsAtEnd s.job.state (last_along (start inputs.workers (length cube.tables) inputs.ready) (turns_of served inputs history) n None)

@@ -2,10 +2,12 @@
 
 ghost use Rattle.std.specs.Prelude.{◌≡◌, ◌≢◌, ◌⊎◌, ◌∷◌, [], ℕ, All, List, Ok, Result, length};
 ghost use Rattle.coordinator.specs.Coordinator.{AreGiven};
-ghost use Rattle.coordinator.specs.Runs.{IsRunOver, fault_ends, run_ends, status_of};
+ghost use Rattle.coordinator.specs.Runs.{IsRunOver, status_of};
+ghost use Rattle.step_outcomes.specs.Ends.{fault_ends, run_ends};
 ghost use Rattle.coordinator.specs.Served.{inputs_of};
 ghost use Rattle.coordinator.specs.Stops.{AsksAmong};
-ghost use Rattle.coordinator.specs.StepOutcomes.{IsEndBy, IsUndamaged, StandsAmong};
+ghost use Rattle.step_outcomes.specs.Ends.{IsUndamaged};
+ghost use Rattle.step_outcomes.specs.Faults.{IsEndBy, StandsAmong};
 ghost use Rattle.cubes_plain.specs.Steps.{IsStepRun, files_at, sink_at};
 ghost use Rattle.cubes_plain.specs.Words.{IsNoStep, IsStep};
 ghost use Rattle.fault_lines.specs.Lines.{bad_words_line};
@@ -26,7 +28,7 @@ use crate::words::script_path;
 use coordinator::{RunFault, ScriptRun, run_script};
 use cubes_plain::run_plain;
 use fault_lines::status::{BAD_WORDS, DONE, MEMORY, READ_FAULT, WRITE_FAULT};
-use fixed_cube::SmallWork;
+use job_board::SmallWork;
 use outside::{Files, Hand, Sink, Stopper};
 use run_history::Event;
 use run_inputs::{FixedInputs, read_inputs, refuse_inputs};

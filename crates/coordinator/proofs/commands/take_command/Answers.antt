@@ -7,8 +7,7 @@ use Rattle.run_transcript.specs.Entries.{entry_of}
 use Rattle.run_transcript.specs.Served.{command_of}
 use Rattle.coordinator.specs.Coordinator.{load_of}
 use Rattle.coordinator.specs.Served.{rows_at, served}
-use Rattle.coordinator.specs.Tasks.{FitsCommand, products_taken}
-use Rattle.coordinator.proofs.Results.{if_ok, ok_of, on_ok}
+use Rattle.coordinator.proofs.Results.{if_ok, on_ok}
 use Rattle.coordinator.proofs.Tables.{fits_found, load_is, never_none}
 use Rattle.coordinator.proofs.commands.take_command.Goals as goal
 
@@ -49,25 +48,3 @@ returns-in-AwaitQueries-clause-block g c =
     let is = ap (command_of served (rows_at (map load_of c.args.loads.now) c.args.line.now.number)) c.in-AwaitQueries.is in
     ap (λ (command : Command Query). entry_of served (now c.args.board.now) c.args.line.now.number (Some c.args.line.now.verb) command) is
     ∙ c.await_queries.ensures.block c.args.line.now.verb
-
-pub returns-in-Some-clause-fits : goal.returns-in-Some-clause-fits
-returns-in-Some-clause-fits g c =
-    let there = rw c.in-Load.is at c.requires.served in
-    let is = load_is c.args.line.now.number c.args.loads.now c.in-Some.found.now c.args.line.now.verb c.in-Load.field-0 c.in-Load.field-1 c.in-Load.is there.0 (sym c.in-Some.ensures) in
-    ok_of c.load.result _ (subst (λ (command : Command Query). FitsCommand command) (sym is) (fits_found c.args.line.now.number c.args.loads.now c.in-Some.found.now c.requires.fit (sym c.in-Some.ensures)))
-
-pub returns-in-Some-clause-products : goal.returns-in-Some-clause-products
-returns-in-Some-clause-products g c =
-    let there = rw c.in-Load.is at c.requires.served in
-    let is = load_is c.args.line.now.number c.args.loads.now c.in-Some.found.now c.args.line.now.verb c.in-Load.field-0 c.in-Load.field-1 c.in-Load.is there.0 (sym c.in-Some.ensures) in
-    ok_of c.load.result _ (c.load.ensures.products ∙ ap (λ (command : Command Query). products_taken (now c.args.board.now) command c.args.board.now.products) (sym is))
-
-pub returns-in-Build-clause-fits : goal.returns-in-Build-clause-fits
-returns-in-Build-clause-fits g c =
-    let is = ap (command_of served (rows_at (map load_of c.args.loads.now) c.args.line.now.number)) c.in-Build.is in
-    ok_of c.build.result _ (subst (λ (command : Command Query). FitsCommand command) (sym is) c.build.ensures.days)
-
-pub returns-in-Build-clause-products : goal.returns-in-Build-clause-products
-returns-in-Build-clause-products g c =
-    let is = ap (command_of served (rows_at (map load_of c.args.loads.now) c.args.line.now.number)) c.in-Build.is in
-    on_ok c.build.result _ _ (λ h. h ∙ ap (λ (command : Command Query). products_taken (now c.args.board.now) command c.args.board.now.products) (sym is)) c.build.ensures.products

@@ -9,10 +9,12 @@ use Rattle.std.proofs.Common.{All, refl, ap, ◌∙◌}
 use Rattle.job_board.specs.BoardModel.{turns}
 use Rattle.coordinator.specs.Served.{served}
 use Rattle.coordinator.specs.Stops.{stops_of}
-use Rattle.coordinator.specs.StepOutcomes.{IsEndBy, IsUndamaged, StandsAmong}
+use Rattle.step_outcomes.specs.Ends.{IsUndamaged}
+use Rattle.step_outcomes.specs.Faults.{IsEndBy, StandsAmong}
 use Rattle.coordinator.proofs.Asked.{asks-none, asks-over, no-turns, requests-none}
-use Rattle.coordinator.proofs.StepOutcomeFacts.{calls-none, with_calls}
-use Rattle.coordinator.proofs.HandAgreementFacts.{all-stand, calls-none_over, calls-over, none-all, agrees-start}
+use Rattle.step_outcomes.proofs.CallFacts.{calls-none, with_calls}
+use Rattle.coordinator.proofs.HandAgreementFacts.{calls-none_over, calls-over, none-all, agrees-start}
+use Rattle.step_outcomes.proofs.FaultFacts.{all-stand}
 use Rattle.coordinator.proofs.run.run_script.Goals as goal
 
 pub drive-ended-requires-clause-sound : goal.drive-ended-requires-clause-sound
@@ -21,7 +23,7 @@ drive-ended-requires-clause-sound g c κs within =
     start-sound d.script (map load_of d.loads.items) d.board d.taken c.in-Ok.ensures.board c.in-Ok.ensures.taken (subst (RisesFrom 0) (sym c.in-Ok.ensures.script) c.requires.given.rise)
 
 pub returns-in-Err-clause-ran : goal.returns-in-Err-clause-ran
-returns-in-Err-clause-ran g c = no-run g.H.Honest.honest (inputs_of 1 c.args.inputs) c.new.result.items (g.S.Sink.written c.args.sink.now) c.new.ensures.items
+returns-in-Err-clause-ran g c = no-run g.H.Honest.honest (inputs_of 1 c.args.inputs) c.new.result.items (g.S.Sink.written c.args.sink.now) refl c.new.ensures.items
 
 pub returns-in-Ok-clause-ran : goal.returns-in-Ok-clause-ran
 returns-in-Ok-clause-ran g c =

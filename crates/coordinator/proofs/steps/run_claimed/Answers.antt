@@ -1,14 +1,15 @@
 use Rattle.std.proofs.Common.{[], ◌∷◌, arith}
-use Rattle.fixed_state.specs.Ends.{kept_of}
+use Rattle.job_board.specs.Ledger.{IsTask, kept_of}
 use Rattle.job_board.specs.BoardModel.{now}
+use Rattle.plain_answer.specs.declared.ask.Ask.{Ask}
 use Rattle.run_history.specs.Commands.Turn.{StepEnds}
 use Rattle.run_history.specs.World.{job_of}
 use Rattle.coordinator.proofs.Boards.{added-same, grown-added}
-use Rattle.coordinator.proofs.Ends.{counted-grown, fault_rises, faults_rose, run_count, runs_rose}
-use Rattle.coordinator.proofs.HandAgreementFacts.{called-by, follows-fails, recorded-answer}
-use Rattle.coordinator.proofs.Worked.{tasks-ended, tasks-same}
+use Rattle.coordinator.proofs.Ends.{counted-grown, fault_rises}
+use Rattle.step_outcomes.proofs.AnswerFacts.{faults_rose, run_count, runs_rose}
+use Rattle.coordinator.proofs.HandAgreementFacts.{recorded-answer}
+use Rattle.step_outcomes.proofs.AnswerFacts.{called-by, follows-fails}
 use Rattle.std.proofs.Common.{◌≡◌, ℕ, List, sym, subst, inl, inr}
-use Rattle.fixed_cube.specs.Tasks.{IsTask}
 use Rattle.outside.specs.Hands.{call_of, with_call}
 use Rattle.coordinator.proofs.steps.run_claimed.Goals as goal
 
@@ -20,7 +21,7 @@ returns-clause-counted g c = λ base h.
     let added = added-same old mid turn c.end_step.new.self c.in_ok-reserve_turn.ensures.same c.end_step.ensures.added in
     let faults = fault_rises (now mid) (job_of (now mid) c.args.work.job) (kept_of mid.products c.args.work.job) c.args.work.attempt c.run-answer.result c.end_step.result c.end_step.ensures.outcome in
     counted-grown g.H.Hand.runs g.H.Hand.faults base (c.args.hand.now ∷ []) (c.run-answer.new.self ∷ []) old c.end_step.new.self (turn ∷ []) 1 _
-    (grown-added old turn c.end_step.new.self added) (run_count c.args.work.job c.args.work.attempt c.end_step.result) (omega (arith, faults))
+    (grown-added old turn c.end_step.new.self added) (run_count Ask c.args.work.job c.args.work.attempt c.end_step.result) (omega (arith, faults))
     (runs_rose g.H.Hand.runs c.args.hand.now c.run-answer.new.self c.run-answer.ensures.ran)
     (faults_rose g.H.Hand.faults c.args.hand.now c.run-answer.new.self c.run-answer.result c.run-answer.ensures.faults c.run-answer.ensures.failed) h
 
@@ -50,9 +51,3 @@ returns-clause-ended g c =
             ]);
       },
     )
-
-pub returns-clause-tasks : goal.returns-clause-tasks
-returns-clause-tasks g c =
-    let mid = c.reserve_turn.new.self in
-    tasks-ended mid c.end_step.new.self c.args.work.job c.args.work.attempt c.run-answer.result c.end_step.result c.end_step.ensures.added c.end_step.ensures.products
-    c.product_len.ensures c.end_step.ensures.outcome (tasks-same c.args.board.now mid c.in_ok-reserve_turn.ensures.same c.requires.tasks)

@@ -6,7 +6,6 @@ use Rattle.coordinator.proofs.Worked.{idle-ended, worked-claim, worked-step, wor
 use Rattle.std.proofs.Common.{sym, subst}
 use Rattle.coordinator.specs.HandAgreement.{AgreesWithHand}
 use Rattle.coordinator.proofs.HandAgreementFacts.{agrees-claim, agrees-same, agrees-step}
-use Rattle.coordinator.proofs.Worked.{tasks-claimed, tasks-same}
 use Rattle.coordinator.proofs.steps.run_step.Goals as goal
 
 -- a step was claimed, and its end is not recorded
@@ -42,14 +41,6 @@ returns-in_err-run_claimed-in-Some-clause-counted g c = λ base h.
     c.run_claimed.ensures.counted base
     (counted-silent g.H.Hand.runs g.H.Hand.faults base (c.args.hand.now ∷ []) c.args.board.now c.claim_step.new.board (Claims c.in-Some.work.job c.in-Some.work.attempt ∷ [])
     (grown-added c.args.board.now (Claims c.in-Some.work.job c.in-Some.work.attempt) c.claim_step.new.board claimed.added) refl refl h)
-
-pub run_claimed-requires-clause-tasks : goal.run_claimed-requires-clause-tasks
-run_claimed-requires-clause-tasks g c = λ κs h.
-    let claimed = rw c.in-Some.is at c.in_ok-work.ensures.some in
-    tasks-claimed c.args.board.now c.claim_step.new.board c.in-Some.work.job c.in-Some.work.attempt claimed.added claimed.products c.requires.tasks
-
-pub returns-in-None-clause-tasks : goal.returns-in-None-clause-tasks
-returns-in-None-clause-tasks g c = tasks-same c.args.board.now c.claim_step.new.board (c.in_ok-work.ensures.none c.in-None.is) c.requires.tasks
 
 pub returns-in_err-work-clause-agrees : goal.returns-in_err-work-clause-agrees
 returns-in_err-work-clause-agrees g c = λ base t.

@@ -31,7 +31,7 @@ pub returns-clause-sound : goal.returns-clause-sound
 returns-clause-sound g c =
     let d = c.args.coordinator.now in
     let inputs = inputs_in d.script (map load_of d.loads.items) in
-    sound-worked inputs d.board c.run_step.new.board d.taken c.run_step.ensures.worked c.in_ok-is_stepped.ensures.idle c.in_ok-is_stepped.ensures.tasks c.requires.sound
+    sound-worked inputs d.board c.run_step.new.board d.taken c.run_step.ensures.worked c.in_ok-is_stepped.ensures.idle c.requires.sound
 
 pub returns-clause-written : goal.returns-clause-written
 returns-clause-written g c = λ before h.

@@ -1,8 +1,9 @@
 use Rattle.std.proofs.Common.{◌≡◌, ◌⊎◌, ℕ, List, Ok, refl, sym, ◌∙◌, subst, inr}
 use Rattle.std.specs.String.{string_bytes}
-use Rattle.coordinator.specs.Runs.{fault_ends, run_ends}
+use Rattle.step_outcomes.specs.Ends.{fault_ends, run_ends}
 use Rattle.coordinator.specs.Served.{inputs_of}
-use Rattle.coordinator.specs.StepOutcomes.{IsEndBy, IsUndamaged, StandsAmong}
+use Rattle.step_outcomes.specs.Ends.{IsUndamaged}
+use Rattle.step_outcomes.specs.Faults.{IsEndBy, StandsAmong}
 use Rattle.coordinator.proofs.Asked.{asks-none, requests-none}
 use Rattle.coordinator.proofs.HandAgreementFacts.{none-all}
 use Rattle.outside.specs.Rises.{entries_of}

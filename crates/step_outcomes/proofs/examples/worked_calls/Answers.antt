@@ -3,9 +3,9 @@ use Rattle.std.specs.Prelude.{⊤}
 use Rattle.outside.specs.Hands.{call_of}
 use Rattle.run_history.specs.declared.event.Outcome.TheVariants.{Done, Killed}
 use Rattle.run_transcript.specs.Examples.{small}
-use Rattle.coordinator.specs.Examples.{four_calls, killed_run}
-use Rattle.coordinator.proofs.StepOutcomeFacts.{calls-silent, calls-start, calls-step}
-use Rattle.coordinator.proofs.examples.worked_calls.Goals as goal
+use Rattle.step_outcomes.specs.Examples.{four_calls, killed_run}
+use Rattle.step_outcomes.proofs.CallFacts.{calls-silent, calls-start, calls-step}
+use Rattle.step_outcomes.proofs.examples.worked_calls.Goals as goal
 
 pub returns-clause-all : goal.returns-clause-all
 returns-clause-all c =

@@ -1,10 +1,11 @@
 use Rattle.std.proofs.Common.{refl, inl, inr, arith}
 use Rattle.std.proofs.lemmas.List.Elements.{All-from_recursion}
-use Rattle.coordinator.specs.Examples.{one_kill}
-use Rattle.coordinator.specs.StepOutcomes.{IsEndBy, IsUndamaged}
-use Rattle.coordinator.proofs.HandAgreementFacts.{all-stand}
+use Rattle.step_outcomes.specs.Examples.{one_kill}
+use Rattle.step_outcomes.specs.Ends.{IsUndamaged}
+use Rattle.step_outcomes.specs.Faults.{IsEndBy}
+use Rattle.step_outcomes.proofs.FaultFacts.{all-stand}
 use Rattle.run_transcript.specs.Examples.{history}
-use Rattle.coordinator.proofs.examples.worked_ends.Goals as goal
+use Rattle.step_outcomes.proofs.examples.worked_ends.Goals as goal
 
 pub returns-clause-by_fault : goal.returns-clause-by_fault
 returns-clause-by_fault c =

@@ -1,27 +1,19 @@
--- What one turn more is to the hand.
-use Rattle.std.proofs.Common.{◌≡◌, ℕ, ◌+◌, ◌≤◌, Bool, true, false, cond, ◌&&◌, ◌==◌, Option, Some, None, List, [], ◌∷◌, ◌++◌, refl, sym, ap, ◌∙◌, inl, inr, arith, append_assoc, append-nil}
-use Rattle.std.specs.Prelude.{Contains, count_by, find, option_map}
+-- What one turn more is to the calls of a hand.
+use Rattle.std.proofs.Common.{◌≡◌, ℕ, ◌+◌, ◌≤◌, Bool, true, false, cond, ◌&&◌, ◌==◌, Option, Some, None, List, [], ◌∷◌, ◌++◌, refl, sym, ap, ◌∙◌, arith, append_assoc, append-nil}
+use Rattle.std.specs.Prelude.{count_by, option_map}
 use Rattle.std.specs.List.{AllByRecursion}
-use Rattle.std.proofs.lemmas.List.Elements.{All-nil, All-push, All-weaker, Contains-append_left, Contains-append_right, Contains-push}
-use Rattle.std.proofs.lemmas.Bool.{and_parts, eqb-true}
+use Rattle.std.proofs.lemmas.List.Elements.{All-nil, All-push, All-weaker}
 use Rattle.std.proofs.lemmas.List.Sums.{sum_by-append}
-use Rattle.fixed_state.specs.Ends.{outcome_of}
-use Rattle.outside.specs.Hands.{Call, Fail, fault_for, is_fail_of, with_call}
-use Rattle.outside.specs.declared.hand.HandFault.{HandFault}
+use Rattle.outside.specs.Hands.{Call, with_call}
 use Rattle.run_history.specs.Commands.{Turn}
 use Rattle.run_history.specs.Commands.Turn.{Takes, Claims, StepEnds, QueryTakes, QueryEnds}
 use Rattle.run_history.specs.Cubes.{CubeSemantics}
 use Rattle.run_history.specs.Steps.{world}
 use Rattle.run_history.specs.World.{Submitted, job_of, next_task}
-use Rattle.run_history.specs.declared.event.Event.{Event}
-use Rattle.run_history.specs.declared.event.Event.TheVariants as event
 use Rattle.run_history.specs.declared.event.Outcome.{Outcome}
 use Rattle.run_history.specs.declared.event.Outcome.TheVariants as outcome
-use Rattle.coordinator.specs.Runs.{is_fault, is_no_memory}
-use Rattle.coordinator.specs.StepOutcomes.{AreCallsOf, EndsBy, IsEndBy, IsFailOf, IsTaskOf, StandsAmong, calls_of, is_call_of, is_end_of}
-use Rattle.coordinator.specs.HandAgreement.{EndsNoStep}
-
--- ---- calls
+use Rattle.step_outcomes.specs.Calls.{AreCallsOf, IsTaskOf, calls_of, is_call_of, is_end_of}
+use Rattle.step_outcomes.specs.Ends.{EndsNoStep, is_no_memory}
 
 -- the calls with some more, where they are told
 abbrev pub with_calls : Option (List Call) → List Call → Option (List Call)
@@ -139,39 +131,3 @@ module _ {Query Answer : Type 0} (cube : CubeSemantics Query Answer) (honest : T
         none true true e = absurd (let clash : true ≡ false = e in cc)
         none true false e = refl
         none false t e = refl
-
--- ---- faults
-
--- an end by the first fault of its attempt has it among them
-abbrev IsAmong : ℕ → ℕ → HandFault → List Fail → Type 0
-IsAmong job attempt f fails = (fail : Fail) × Contains fails fail × (fail.job ≡ job) × (fail.attempt ≡ attempt) × (fail.fault ≡ f)
-
-first_or_later : (job attempt : ℕ) (f : HandFault) (fail : Fail) (fails : List Fail) (b : Bool) → ((fail.job == job) && (fail.attempt == attempt)) ≡ b
-    → (fault_for job attempt fails ≡ Some f → IsAmong job attempt f fails) → option_map (λ (x : Fail). x.fault) (cond b (Some fail) (find (is_fail_of job attempt) fails)) ≡ Some f
-    → IsAmong job attempt f (fail ∷ fails)
-first_or_later job attempt f fail fails true t rest h =
-    let parts = and_parts (fail.job == job) (fail.attempt == attempt) t in
-    let same : fail.fault ≡ f = cc in
-    (fail, Contains-append_left (fail ∷ []) fails fail (Contains-push [] fail), eqb-true fail.job job parts.0, eqb-true fail.attempt attempt parts.1, same)
-first_or_later job attempt f fail fails false t rest h =
-    let found = rest h in
-    (found.0, Contains-append_right (fail ∷ []) fails found.0 found.1, found.2, found.3, found.4)
-
-first_found : (job attempt : ℕ) (f : HandFault) (fails : List Fail) → fault_for job attempt fails ≡ Some f → IsAmong job attempt f fails
-first_found job attempt f [] e = cc
-first_found job attempt f (fail ∷ fails) e = first_or_later job attempt f fail fails ((fail.job == job) && (fail.attempt == attempt)) refl (first_found job attempt f fails) e
-
-stands_by : (fails : List Fail) (job attempt : ℕ) (o : Outcome) (met : Option HandFault) → fault_for job attempt fails ≡ met → EndsBy met o → is_fault o ≡ true
-    → (fail : Fail) × Contains fails fail × IsFailOf job attempt o fail
-stands_by fails job attempt o None e h fault = absurd (let clash : true ≡ false = sym fault ∙ h in cc)
-stands_by fails job attempt o (Some f) e (inl h) fault =
-    let found = first_found job attempt f fails e in
-    (found.0, found.1, record { job_is = found.2; attempt_is = found.3; fault_is = ap outcome_of found.4 ∙ sym h })
-stands_by fails job attempt o (Some f) e (inr h) fault = absurd (let clash : true ≡ false = sym fault ∙ ap is_fault h in cc)
-
-pub stands-among : (fails : List Fail) (event : Event) → IsEndBy fails event → StandsAmong fails event
-stands-among fails (event.StepEnd job attempt o) h = λ fault. stands_by fails job attempt o (fault_for job attempt fails) refl h fault
-stands-among fails (event.Command line) h = tt
-stands-among fails (event.Claim job attempt) h = tt
-stands-among fails (event.QueryTake line) h = tt
-stands-among fails (event.QueryEnd line out) h = tt
