@@ -1,0 +1,12 @@
+pub mod Members
+pub mod Reached
+pub mod Worlds
+pub mod Moves
+pub mod Products
+pub mod Recorded
+pub mod EndedCalls
+pub mod Told
+pub mod Landed
+pub mod Started
+pub mod KeepUp
+pub mod Begun
