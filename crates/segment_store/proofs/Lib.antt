@@ -1,0 +1,4 @@
+mod Lists
+pub mod Swaps
+mod Drops
+mod Means
