@@ -1,0 +1,4 @@
+pub mod Renumbered
+pub mod Merges
+pub mod Laws
+pub mod Examples
