@@ -1,0 +1,5 @@
+pub mod Expiry
+pub mod Chances
+pub mod Plans
+pub mod Turns
+pub mod Examples

@@ -1,0 +1,5 @@
+pub mod CostLemmas
+pub mod PickLemmas
+pub mod LawLemmas
+pub mod TraceLemmas
+pub mod ValidLemmas

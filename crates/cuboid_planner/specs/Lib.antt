@@ -1,0 +1,7 @@
+pub mod Sizes
+pub mod Valid
+pub mod Costs
+pub mod Kept
+pub mod Best
+pub mod Picks
+pub mod Examples
