@@ -45,10 +45,10 @@ def main():
         for mask in masks:
             key = ", ".join(name for place, name in enumerate(COLUMNS) if mask >> place & 1)
             if from_rows or dimensions == 8:
-                source, cells = "flat", "COUNT(*) AS n, SUM(price) AS total, MIN(price) AS least, MAX(price) AS most"
+                source, cells = "flat", "COUNT(*) AS n, COUNT(price) AS prices, COUNT(seller) AS sellers, SUM(price) AS total, MIN(price) AS least, MAX(price) AS most"
             else:
                 parent = min((it for it in cuboids(dimensions + 1) if it & mask == mask), key=lambda it: sizes[it])
-                source, cells = f"cuboid{parent}", "SUM(n) AS n, SUM(total) AS total, MIN(least) AS least, MAX(most) AS most"
+                source, cells = f"cuboid{parent}", "SUM(n) AS n, SUM(prices) AS prices, SUM(sellers) AS sellers, SUM(total) AS total, MIN(least) AS least, MAX(most) AS most"
             database.execute(f"CREATE TABLE cuboid{mask} AS SELECT {key}, {cells} FROM {source} GROUP BY {key}")
             (sizes[mask],) = database.execute(f"SELECT COUNT(*) FROM cuboid{mask}").fetchone()
         print(f"{(time.perf_counter() - begun) * 1000:.0f} ms", file=sys.stderr)

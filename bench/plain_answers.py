@@ -1,6 +1,6 @@
-"""Works out, with Python's sqlite3, the answers that the test of `plain_answer` expects.
+"""Works out, with Python's sqlite3, the answers that `answer_check` expects.
 
-It writes each ask of the test as SQL over the same twenty rows, and prints the rows of the answer. Decimals are kept
+It writes each ask of the check as SQL over the same rows, and prints the rows of the answer. Decimals are kept
 as whole numbers of 1/10000. Nulls come first in SQLite's order, and last under DESC, as in the cube's. An average is
 cut toward zero here as SQLite's whole division does it, since its own AVG is a floating-point number.
 """
@@ -16,6 +16,12 @@ ROWS = [
     ("US", 9, 33333, "2012-03-02"), ("eu", 8, 5, "2012-03-02"), ("ASIA", 7, None, "2012-03-03"),
     (None, 8, 30000, "2012-03-03"), ("EU", None, 12345, "2012-03-04"), ("eu", 8, -5, "2012-03-04"),
     ("US", 10, 9999, "2012-03-05"), ("", None, -10001, "2012-03-05"),
+]
+
+# Three sales of January, the first without its price, and the two of EU in another January, both without
+JANUARIES = [
+    ("EU", 7, None, "2013-01-01"), ("EU", 8, 55000, "2013-01-01"), ("US", 7, 10000, "2013-01-15"),
+    ("EU", 7, None, "2014-01-01"), ("EU", 8, None, "2014-01-01"),
 ]
 
 OF_CONDITION = "select count(*), count(distinct seller), min(price), max(price) from t where "
@@ -40,6 +46,12 @@ CASES = [
     "select region, count(*), sum(price), sum(seller), sum(price) / count(price) from t group by region order by region",
     # no row, and a group column
     "select region, count(*) from t where region = 'MARS' group by region order by region",
+    # counts of known values, of groups and of all rows; over no row they are 0
+    "select region, count(*), count(price), count(seller) from t group by region order by region",
+    "select count(*), count(price), count(seller), sum(price) / count(price) from t where region = 'ASIA'",
+    "select count(price) from t where region = 'MARS'",
+    # the known prices are counted in a condition on groups and in an order
+    "select region, count(price), count(distinct price) from t group by region having count(price) < 5 order by count(price) desc, region",
     # HAVING before LIMIT
     "select region, count(*) from t group by region having count(*) < 4 order by region limit 3",
     # a falling order with nulls last, ties by the key, and a limit
@@ -48,15 +60,28 @@ CASES = [
     "select region, seller, count(*) from t group by region, seller order by seller desc, count(*), region, seller limit 7",
 ]
 
+# Of the sales of a January
+OF_JANUARY = [
+    "select region, count(*), count(price), sum(price), sum(price) / count(price) from t where day < '2014-01-01' group by region order by region",
+    "select region, count(*), count(price), sum(price), sum(price) / count(price), min(price), max(price), count(distinct price),"
+    " count(distinct seller) from t where day >= '2014-01-01' group by region order by region",
+]
 
-def main():
+
+def show(rows, cases):
+    """Prints the answers to the cases over the rows."""
     database = sqlite3.connect(":memory:")
     database.execute("create table t (region text, seller integer, price integer, day text)")
-    database.executemany("insert into t values (?, ?, ?, ?)", ROWS)
-    for sql in CASES:
+    database.executemany("insert into t values (?, ?, ?, ?)", rows)
+    for sql in cases:
         print(sql)
         for row in database.execute(sql):
             print("   ", row)
+
+
+def main():
+    show(ROWS, CASES)
+    show(JANUARIES, OF_JANUARY)
 
 
 main()
