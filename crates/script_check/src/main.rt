@@ -6,6 +6,7 @@
 //!   the kind of its fault.
 //! - `script TEXT`: the number of the script's commands, or of its bad line. `times N TEXT`: the same of the text, so often, below the
 //!   descriptor's line. `commands TEXT`: each command with the number of its line, and with its job or session.
+//! - `read TEXT`, `read-times N TEXT`, `read-commands TEXT`: the same as scripts of any cube; a fault has its line and its kind.
 //! - `block NUMBER ..`, `end ..`: the text of a block and of the end line; `blocks` says how they are given.
 //!
 //! It is no part of the product.
@@ -16,6 +17,7 @@ mod command_words;
 mod refusals;
 mod script_lines;
 mod scripts;
+mod whole_scripts;
 
 use check_lines::{Answerer, Words, answer_lines, unknown_line};
 use std::alloc::Global;
@@ -35,6 +37,9 @@ impl Answerer for ScriptCheck {
             "script" => scripts::answer_script(alloc, words.rest(), out),
             "times" => scripts::answer_times(alloc, words, out),
             "commands" => scripts::answer_commands(alloc, words.rest(), out),
+            "read" => whole_scripts::answer_read(alloc, words.rest(), out),
+            "read-times" => whole_scripts::answer_times(alloc, words, out),
+            "read-commands" => whole_scripts::answer_commands(alloc, words.rest(), out),
             "block" => blocks::answer_block(alloc, words, out),
             "end" => blocks::answer_end(alloc, words, out),
             _ => Err(unknown_line()),

@@ -70,8 +70,8 @@ fn add_repeated(script: &mut Vec<u8>, text: &[u8], times: u32) -> Result<(), All
     Ok(())
 }
 
-// A script with the text below the descriptor's line, so often.
-fn script_of(alloc: Global, words: &mut Words<'_>) -> io::Result<Vec<u8>> {
+/// A script with the text below the descriptor's line, so often.
+pub(crate) fn script_of(alloc: Global, words: &mut Words<'_>) -> io::Result<Vec<u8>> {
     let times = words.number()?;
     let text = unescaped(alloc, words.rest())?;
     let mut script = Vec::from_slice(alloc, b"descriptor fixed\n")?;
@@ -89,8 +89,8 @@ pub(crate) fn answer_times<W: Write>(
     put_count(&read_fixed_script(alloc, bytes.as_slice()), out)
 }
 
-// Writes each command.
-fn put_lines<W: Write>(lines: &[Line], out: &mut W) -> io::Result<()> {
+/// Writes each command.
+pub(crate) fn put_lines<W: Write>(lines: &[Line], out: &mut W) -> io::Result<()> {
     for line in lines {
         put_line(line, out)?;
     }
