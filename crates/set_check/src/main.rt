@@ -1,4 +1,4 @@
-//! Answers calls on rows of published sets, in one thread and in two, each line of standard input a list of calls.
+//! Answers calls on rows of published sets, in one thread and in two, and on ready sets, each line of standard input a list of calls.
 //!
 //! The lines:
 //!
@@ -10,15 +10,26 @@
 //! - `threads KNOWN LAST PINS` publishes the versions up to KNOWN. Then one thread publishes the versions up to LAST while another pins so many
 //!   times, told of KNOWN. It says whether the set of each token that was published has its version, and whether the versions that
 //!   were pinned began at KNOWN at least and never fell: both are so under every schedule.
+//! - `sets CALL ..` makes calls on ready sets, from the empty one on. `of:DAY,DAY,..` takes the set of the segments between these days, end
+//!   to end, by the jobs 0, 1 and so on. `swap:DAY:DAY` swaps in the segment of the next job over a range, and `drop:PLACE` drops a segment; each
+//!   writes `refused` where the set has no such next one. `size` writes the number of the set and how many segments it has, and `list` the
+//!   job and the range of each. `row:PLACE` writes what the one row of a segment's source holds: the number of its job. `table:PLACE:MASK` writes how many
+//!   rows the table of a mask has, none where it isn't built.
+//! - `publish` publishes the empty ready set in a row, and writes the number of its token's set, and how many segments it has.
 //!
 //! It is no part of the product.
 #![tactic(auto)]
 
+mod published;
 mod rows;
+mod segments;
+mod sets;
 mod threads;
 mod versions;
 
+use crate::published::answer_publish;
 use crate::rows::answer_row;
+use crate::sets::answer_sets;
 use crate::threads::answer_threads;
 use check_lines::{Words, known, next_case, unknown_line};
 use cube_desc::{CubeDesc, read_desc};
@@ -67,6 +78,8 @@ fn answer<R: Threads + Wait + Sync, W: Write>(
         "descriptor" => answer_descriptor(alloc, words.rest(), given, out)?,
         "row" => answer_row(rt, alloc, given_desc(given)?, &mut words, out)?,
         "threads" => answer_threads(rt, alloc, given_desc(given)?, &mut words, out)?,
+        "sets" => answer_sets(alloc, &mut words, out)?,
+        "publish" => answer_publish(rt, alloc, given_desc(given)?, out)?,
         _ => return Err(unknown_line()),
     }
     out.write_all(b"\n")

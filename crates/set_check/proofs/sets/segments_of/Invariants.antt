@@ -1,0 +1,5 @@
+use Rattle.set_check.specs.Rising.{EndBy}
+use Rattle.set_check.proofs.sets.segments_of.Given as goal
+
+abbrev pub invariant-loop-word : goal.invariant-loop-word
+invariant-loop-word l = goal.iterator-loop-word.can_next l.word-iterator × goal.iterator-loop-word.is_finite l.word-iterator × EndBy l.segments.items l.from
